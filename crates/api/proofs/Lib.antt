@@ -1,0 +1,4 @@
+pub mod Copying
+pub mod Bits
+pub mod Givens
+pub mod Naming

@@ -1,0 +1,32 @@
+-- `code::signs::to_i8` meets its contract: the number is what the bits are read as, and `!` twice over leaves them.
+-- Assumes nothing.
+use mathlib.Core.Path.{_≡_, refl, sym, ap, _∙_}
+use Prim.Native.Nat.{ℕ, _-_}
+use native.Mathlib.Omega.{arith}
+use borrow.Author.Needs.{needs}
+use mir.Syntax.{w8}
+use mir.Val.{toZ}
+use Rattle.code.proofs.Twos.{signed-toZ}
+use Rattle.code.proofs.signs.to_i8.Statement.{statement}
+use Rattle.code.proofs.signs.to_i8.Tie as tie
+
+cast-result : tie.Need-cast-result
+cast-result c = search needs
+
+returns : tie.Need-returns
+returns c = sym (signed-toZ w8 256 refl refl (c .before .args .b) (omega arith))
+
+sub-y : tie.Need-sub-y
+sub-y c = search needs
+
+cast-y : tie.Need-cast-y
+cast-y c = search needs
+
+returns-2 : tie.Need-returns-2
+returns-2 c =
+    let b = c .before .args .b in
+    let e : 255 - (255 - b) ≡ b = omega arith in
+    ap (toZ w8) e ∙ sym (signed-toZ w8 256 refl refl b (omega arith))
+
+pub to-i8-spec : {M : Type 1} → statement M
+to-i8-spec = tie.close (tie.spec cast-result returns sub-y cast-y returns-2)

@@ -1,0 +1,8 @@
+pub mod Keys
+pub mod Rows
+pub mod Signs
+pub mod Listed
+pub mod Rules
+pub mod Flagged
+pub mod Effected
+pub mod Named

@@ -1,0 +1,149 @@
+-- What an instruction does to the depth of the stack: op.rs, `stack_effect`, `jump_taken_stack_effect`; document 01, "Bytes and depths".
+-- An effect is a number to add, `up`, and a number to take away, `down`; the net effect is `up` - `down`.
+-- Assumes nothing.
+use mathlib.Core.Bool.{Bool, true, false}
+use mathlib.Core.List.{List, [], _∷_}
+use Prim.Native.Nat.{ℕ, _+_, _*_, _/_, _%_, _<_}
+use lib.Dec.{eqb}
+use lib.IntN.{ℤ, subℕ}
+use lib.ListN.{getD}
+use Rattle.op.specs.Choice.{pick, isIn}
+use Rattle.op.specs.Opcodes.{Rule, minus3, minus2, minus1, same, plus1, plus2, minus-n, one-minus-n, one-minus-2n, n-minus-one, both, minus-both, one-minus-both, extended, format, assert, assert-failed, match-keys}
+use Rattle.op.specs.Opcodes.{Row, op, known, rowOf}
+use Rattle.op.specs.Opcodes.{Jump, JumpIfTrue, JumpIfFalse, JumpIfTrueOrPop, JumpIfFalseOrPop, ForIter, Raise, Reraise, ReturnValue, RaiseUnboundLocal, AssertFailed}
+use Rattle.op.specs.Shapes.{shapeNumber, shapeIn, operandShape}
+use Rattle.op.specs.declared.Deadness.{Deadness}
+use Rattle.op.specs.declared.Deadness.the-variants as D
+use Rattle.op.specs.declared.Effect.{Effect}
+use Rattle.op.specs.declared.Effect.the-variants.{By, Refused}
+use Rattle.op.specs.declared.NetEffect.{NetEffect}
+use Rattle.op.specs.declared.NetEffect.the-variants as N
+use Rattle.op.specs.declared.Operand.{Operand}
+use Rattle.op.specs.declared.Operand.the-variants as O
+use Rattle.op.specs.declared.Refusal.the-variants.{UnknownOpcode, WrongShape, NotAJump}
+
+-- a row's effect
+abbrev pub ruleIn : Row → Rule
+ruleIn (op name shape rule) = rule
+
+-- the last number of an operand, which is its count, flags or mode; 0 where there is none or no effect goes by it
+abbrev pub lastOf : Operand → ℕ
+lastOf O.None = 0
+lastOf (O.U8 a) = a
+lastOf (O.I8 a) = 0
+lastOf (O.U16 a) = a
+lastOf (O.Offset a) = 0
+lastOf (O.U8U8 a b) = b
+lastOf (O.U16U8 a b) = b
+lastOf (O.U16U16 a b) = b
+lastOf (O.U16U8U8 a b c) = c
+lastOf (O.CallKw positional names) = names
+lastOf (O.CallAttrKw attribute positional names) = names
+lastOf (O.U16U16U8 a b c) = c
+
+-- the number before it: UnpackEx's before, MakeClosure's defaults, a keyword call's positional count; 0 elsewhere
+abbrev pub formerOf : Operand → ℕ
+formerOf O.None = 0
+formerOf (O.U8 a) = 0
+formerOf (O.I8 a) = 0
+formerOf (O.U16 a) = 0
+formerOf (O.Offset a) = 0
+formerOf (O.U8U8 a b) = a
+formerOf (O.U16U8 a b) = 0
+formerOf (O.U16U16 a b) = 0
+formerOf (O.U16U8U8 a b c) = b
+formerOf (O.CallKw positional names) = positional
+formerOf (O.CallAttrKw attribute positional names) = positional
+formerOf (O.U16U16U8 a b c) = 0
+
+-- document 01, "Those with operands": a rule over an operand's former and last number
+unfoldable pub effectBy : Rule → ℕ → ℕ → Effect
+effectBy minus3 m n = By 0 3
+effectBy minus2 m n = By 0 2
+effectBy minus1 m n = By 0 1
+effectBy same m n = By 0 0
+effectBy plus1 m n = By 1 0
+effectBy plus2 m n = By 2 0
+effectBy minus-n m n = By 0 n
+effectBy one-minus-n m n = By 1 n
+effectBy one-minus-2n m n = By 1 (2 * n)
+effectBy n-minus-one m n = By n 1
+effectBy both m n = By (m + n) 0
+effectBy minus-both m n = By 0 (m + n)
+effectBy one-minus-both m n = By 1 (m + n)
+effectBy extended m n = By 0 (1 + n % 2)
+effectBy format m n = By 0 (n / 4 % 2)
+effectBy assert m n = By 0 (1 + n / 16 % 2)
+effectBy assert-failed m n = By 0 (2 + n / 16 % 2)
+effectBy match-keys m n = pick (eqb n 1) (By 0 1) (By 2 0)
+
+-- "The opcode rules refuse 1, then 2": the effect of an opcode with an operand
+unfoldable pub effectOf : ℕ → Operand → Effect
+effectOf k o =
+    pick (known k)
+    (pick (eqb (shapeNumber (shapeIn (rowOf k))) (shapeNumber (operandShape o)))
+    (effectBy (ruleIn (rowOf k)) (formerOf o) (lastOf o))
+    (Refused WrongShape))
+    (Refused UnknownOpcode)
+
+-- "Jumps, falling through / taken": the taken effects, refusing 1, then 3
+unfoldable pub takenOf : ℕ → Effect
+takenOf k =
+    pick (known k)
+    (pick (isIn k (Jump ∷ JumpIfTrueOrPop ∷ JumpIfFalseOrPop ∷ [])) (By 0 0)
+    (pick (isIn k (JumpIfTrue ∷ JumpIfFalse ∷ ForIter ∷ [])) (By 0 1)
+    (Refused NotAJump)))
+    (Refused UnknownOpcode)
+
+-- the two numbers of an effect fit the Rust's i32
+abbrev pub Small : Effect → Type 0
+Small (By up down) = (up < 2147483648) × (down < 2147483648)
+Small (Refused r) = Unit {0}
+
+-- an effect as the Rust's signed number
+abbrev pub netOf : Effect → NetEffect
+netOf (By up down) = N.Net (subℕ up down)
+netOf (Refused r) = N.Refused r
+
+-- "Exactly six opcodes make the code dead"
+unfoldable pub deadMaker : ℕ → Bool
+deadMaker k = isIn k (ReturnValue ∷ Raise ∷ Reraise ∷ RaiseUnboundLocal ∷ AssertFailed ∷ Jump ∷ [])
+
+-- what is behind an opcode, or 1
+abbrev pub deadnessOf : ℕ → Deadness
+deadnessOf k = pick (known k) (pick (deadMaker k) D.Dead D.Live) (D.Refused UnknownOpcode)
+
+-- the number by which the code knows a rule; no rule of document 01
+abbrev pub ruleNumber : Rule → ℕ
+ruleNumber minus3 = 0
+ruleNumber minus2 = 1
+ruleNumber minus1 = 2
+ruleNumber same = 3
+ruleNumber plus1 = 4
+ruleNumber plus2 = 5
+ruleNumber minus-n = 6
+ruleNumber one-minus-n = 7
+ruleNumber one-minus-2n = 8
+ruleNumber n-minus-one = 9
+ruleNumber both = 10
+ruleNumber minus-both = 11
+ruleNumber one-minus-both = 12
+ruleNumber extended = 13
+ruleNumber format = 14
+ruleNumber assert = 15
+ruleNumber assert-failed = 16
+ruleNumber match-keys = 17
+
+-- the rules in the order of these numbers, without the last
+abbrev pub rules : List Rule
+rules =
+    minus3 ∷ minus2 ∷ minus1 ∷ same ∷ plus1 ∷ plus2 ∷ minus-n ∷ one-minus-n ∷ one-minus-2n ∷ n-minus-one ∷ both ∷
+    minus-both ∷ one-minus-both ∷ extended ∷ format ∷ assert ∷ assert-failed ∷ []
+
+-- the rule of a number
+abbrev pub ruleAt : ℕ → Rule
+ruleAt e = getD rules e match-keys
+
+-- the number of an opcode's rule
+unfoldable pub ruleNo : ℕ → ℕ
+ruleNo k = ruleNumber (ruleIn (rowOf k))

@@ -1,0 +1,373 @@
+// What instructions do to the depth of the stack.
+ghost use mathlib.Core.Path.{_≡_};
+ghost use Prim.Native.Nat.{_<_};
+ghost use Rattle.op.specs.Effects.{ruleNo, ruleAt, effectBy, effectOf, takenOf, netOf, Small, deadMaker, deadnessOf, lastOf, formerOf};
+use crate::Deadness;
+use crate::Effect;
+use crate::NetEffect;
+use crate::Operand;
+use crate::Refusal;
+use crate::Shaped;
+use crate::opcodes;
+use crate::shapes;
+
+// The rules of effects, by numbers of our own.
+const MINUS_3: u8 = 0;
+
+const MINUS_2: u8 = 1;
+
+const MINUS_1: u8 = 2;
+
+const SAME: u8 = 3;
+
+const PLUS_1: u8 = 4;
+
+const PLUS_2: u8 = 5;
+
+const MINUS_N: u8 = 6;
+
+const ONE_MINUS_N: u8 = 7;
+
+const ONE_MINUS_2N: u8 = 8;
+
+const N_MINUS_ONE: u8 = 9;
+
+const BOTH: u8 = 10;
+
+const MINUS_BOTH: u8 = 11;
+
+const ONE_MINUS_BOTH: u8 = 12;
+
+const EXTENDED: u8 = 13;
+
+const FORMAT: u8 = 14;
+
+const ASSERT: u8 = 15;
+
+const ASSERT_FAILED: u8 = 16;
+
+const MATCH_KEYS: u8 = 17;
+
+// The number of an opcode's rule. One arm for each opcode, as in `operand_shape`.
+fn rule_number(opcode: u8) -> u8
+    ensures { λ r. ⌜ r ≡ ruleNo opcode ⌝ }
+{
+    match opcode {
+        opcodes::POP => MINUS_1,
+        opcodes::DUP => PLUS_1,
+        opcodes::ROT2 => SAME,
+        opcodes::ROT3 => SAME,
+        opcodes::LOAD_CONST => PLUS_1,
+        opcodes::LOAD_NONE => PLUS_1,
+        opcodes::LOAD_TRUE => PLUS_1,
+        opcodes::LOAD_FALSE => PLUS_1,
+        opcodes::LOAD_SMALL_INT => PLUS_1,
+        opcodes::LOAD_LOCAL0 => PLUS_1,
+        opcodes::LOAD_LOCAL1 => PLUS_1,
+        opcodes::LOAD_LOCAL2 => PLUS_1,
+        opcodes::LOAD_LOCAL3 => PLUS_1,
+        opcodes::LOAD_LOCAL => PLUS_1,
+        opcodes::LOAD_LOCAL_W => PLUS_1,
+        opcodes::STORE_LOCAL => MINUS_1,
+        opcodes::STORE_LOCAL_W => MINUS_1,
+        opcodes::LOAD_GLOBAL => PLUS_1,
+        opcodes::STORE_GLOBAL => MINUS_1,
+        opcodes::LOAD_CELL => PLUS_1,
+        opcodes::STORE_CELL => MINUS_1,
+        opcodes::DELETE_LOCAL => SAME,
+        opcodes::LOAD_GLOBAL_CALLABLE => PLUS_1,
+        opcodes::BINARY_ADD => MINUS_1,
+        opcodes::BINARY_SUB => MINUS_1,
+        opcodes::BINARY_MUL => MINUS_1,
+        opcodes::BINARY_DIV => MINUS_1,
+        opcodes::BINARY_FLOOR_DIV => MINUS_1,
+        opcodes::BINARY_MOD => MINUS_1,
+        opcodes::BINARY_POW => MINUS_1,
+        opcodes::BINARY_AND => MINUS_1,
+        opcodes::BINARY_OR => MINUS_1,
+        opcodes::BINARY_XOR => MINUS_1,
+        opcodes::BINARY_LSHIFT => MINUS_1,
+        opcodes::BINARY_RSHIFT => MINUS_1,
+        opcodes::BINARY_MAT_MUL => MINUS_1,
+        opcodes::COMPARE_EQ => MINUS_1,
+        opcodes::COMPARE_NE => MINUS_1,
+        opcodes::COMPARE_LT => MINUS_1,
+        opcodes::COMPARE_LE => MINUS_1,
+        opcodes::COMPARE_GT => MINUS_1,
+        opcodes::COMPARE_GE => MINUS_1,
+        opcodes::COMPARE_IS => MINUS_1,
+        opcodes::COMPARE_IS_NOT => MINUS_1,
+        opcodes::COMPARE_IN => MINUS_1,
+        opcodes::COMPARE_NOT_IN => MINUS_1,
+        opcodes::UNARY_NOT => SAME,
+        opcodes::UNARY_NEG => SAME,
+        opcodes::UNARY_POS => SAME,
+        opcodes::UNARY_INVERT => SAME,
+        opcodes::INPLACE_ADD => MINUS_1,
+        opcodes::INPLACE_SUB => MINUS_1,
+        opcodes::INPLACE_MUL => MINUS_1,
+        opcodes::INPLACE_DIV => MINUS_1,
+        opcodes::INPLACE_FLOOR_DIV => MINUS_1,
+        opcodes::INPLACE_MOD => MINUS_1,
+        opcodes::INPLACE_POW => MINUS_1,
+        opcodes::INPLACE_AND => MINUS_1,
+        opcodes::INPLACE_OR => MINUS_1,
+        opcodes::INPLACE_XOR => MINUS_1,
+        opcodes::INPLACE_LSHIFT => MINUS_1,
+        opcodes::INPLACE_RSHIFT => MINUS_1,
+        opcodes::BUILD_LIST => ONE_MINUS_N,
+        opcodes::BUILD_TUPLE => ONE_MINUS_N,
+        opcodes::BUILD_DICT => ONE_MINUS_2N,
+        opcodes::BUILD_SET => ONE_MINUS_N,
+        opcodes::FORMAT_VALUE => FORMAT,
+        opcodes::BUILD_FSTRING => ONE_MINUS_N,
+        opcodes::BUILD_SLICE => MINUS_2,
+        opcodes::LIST_EXTEND => MINUS_1,
+        opcodes::LIST_TO_TUPLE => SAME,
+        opcodes::DICT_MERGE => MINUS_1,
+        opcodes::LIST_APPEND => MINUS_1,
+        opcodes::SET_ADD => MINUS_1,
+        opcodes::DICT_SET_ITEM => MINUS_2,
+        opcodes::BINARY_SUBSCR => MINUS_1,
+        opcodes::STORE_SUBSCR => MINUS_3,
+        opcodes::LOAD_ATTR => SAME,
+        opcodes::LOAD_ATTR_IMPORT => SAME,
+        opcodes::STORE_ATTR => MINUS_2,
+        opcodes::CALL_FUNCTION => MINUS_N,
+        opcodes::CALL_BUILTIN_FUNCTION => ONE_MINUS_N,
+        opcodes::CALL_BUILTIN_TYPE => ONE_MINUS_N,
+        opcodes::CALL_FUNCTION_KW => MINUS_BOTH,
+        opcodes::CALL_ATTR => MINUS_N,
+        opcodes::CALL_ATTR_KW => MINUS_BOTH,
+        opcodes::CALL_FUNCTION_EXTENDED => EXTENDED,
+        opcodes::CALL_ATTR_EXTENDED => EXTENDED,
+        opcodes::JUMP => SAME,
+        opcodes::JUMP_IF_TRUE => MINUS_1,
+        opcodes::JUMP_IF_FALSE => MINUS_1,
+        opcodes::JUMP_IF_TRUE_OR_POP => MINUS_1,
+        opcodes::JUMP_IF_FALSE_OR_POP => MINUS_1,
+        opcodes::GET_ITER => SAME,
+        opcodes::FOR_ITER => PLUS_1,
+        opcodes::MAKE_FUNCTION => ONE_MINUS_N,
+        opcodes::MAKE_CLOSURE => ONE_MINUS_BOTH,
+        opcodes::RAISE => MINUS_1,
+        opcodes::RERAISE => SAME,
+        opcodes::CLEAR_EXCEPTION => SAME,
+        opcodes::CHECK_EXC_MATCH => SAME,
+        opcodes::RETURN_VALUE => MINUS_1,
+        opcodes::AWAIT => SAME,
+        opcodes::UNPACK_SEQUENCE => N_MINUS_ONE,
+        opcodes::UNPACK_EX => BOTH,
+        opcodes::NOP => SAME,
+        opcodes::LOAD_MODULE => PLUS_1,
+        opcodes::LOAD_SUBMODULE => SAME,
+        opcodes::DUP2 => PLUS_2,
+        opcodes::DELETE_GLOBAL => SAME,
+        opcodes::DICT_UPDATE => MINUS_1,
+        opcodes::SET_EXTEND => MINUS_1,
+        opcodes::BEFORE_WITH => PLUS_1,
+        opcodes::WITH_EXIT => SAME,
+        opcodes::WITH_EXCEPT_START => PLUS_1,
+        opcodes::LIFT_TO_TOP => SAME,
+        opcodes::RAISE_UNBOUND_LOCAL => SAME,
+        opcodes::METHOD_DICT_MERGE => MINUS_1,
+        opcodes::ASSERT => ASSERT,
+        opcodes::ASSERT_FAILED => ASSERT_FAILED,
+        opcodes::BUILD_CELL => PLUS_1,
+        opcodes::DELETE_CELL => SAME,
+        opcodes::LOAD_NAME => PLUS_1,
+        opcodes::STORE_NAME => MINUS_1,
+        opcodes::DELETE_NAME => SAME,
+        opcodes::MATCH_SHAPE => PLUS_1,
+        opcodes::MATCH_KEYS => MATCH_KEYS,
+        opcodes::MATCH_CLASS => PLUS_1,
+        opcodes::MATCH_ATTR => PLUS_2,
+        opcodes::SINK_TOP => SAME,
+        opcodes::RAISE_FROM => MINUS_2,
+        _ => SAME,
+    }
+}
+
+// A rule's effect, by the operand's former and last number.
+fn rule_effect(rule: u8, m: u32, n: u32) -> Effect
+    requires { ⌜ (m < 256) × (n < 65536) ⌝ }
+    ensures { λ r. ⌜ r ≡ effectBy (ruleAt rule) m n ⌝ }
+{
+    match rule {
+        MINUS_3 => Effect::By { up: 0, down: 3 },
+        MINUS_2 => Effect::By { up: 0, down: 2 },
+        MINUS_1 => Effect::By { up: 0, down: 1 },
+        SAME => Effect::By { up: 0, down: 0 },
+        PLUS_1 => Effect::By { up: 1, down: 0 },
+        PLUS_2 => Effect::By { up: 2, down: 0 },
+        MINUS_N => Effect::By { up: 0, down: n },
+        ONE_MINUS_N => Effect::By { up: 1, down: n },
+        ONE_MINUS_2N => Effect::By { up: 1, down: 2 * n },
+        N_MINUS_ONE => Effect::By { up: n, down: 1 },
+        BOTH => Effect::By { up: m + n, down: 0 },
+        MINUS_BOTH => Effect::By { up: 0, down: m + n },
+        ONE_MINUS_BOTH => Effect::By { up: 1, down: m + n },
+        EXTENDED => Effect::By {
+            up: 0,
+            down: 1 + n % 2,
+        },
+        FORMAT => Effect::By {
+            up: 0,
+            down: n / 4 % 2,
+        },
+        ASSERT => Effect::By {
+            up: 0,
+            down: 1 + n / 16 % 2,
+        },
+        ASSERT_FAILED => Effect::By {
+            up: 0,
+            down: 2 + n / 16 % 2,
+        },
+        _ => {
+            if n == 1 {
+                Effect::By { up: 0, down: 1 }
+            } else {
+                Effect::By { up: 2, down: 0 }
+            }
+        }
+    }
+}
+
+// An operand's last number: its count, flags or mode.
+fn last(operand: Operand) -> u32
+    ensures { λ r. ⌜ (r ≡ lastOf operand) × (r < 65536) ⌝ }
+{
+    match operand {
+        Operand::None => 0,
+        Operand::U8(a) => a as u32,
+        Operand::I8(_) => 0,
+        Operand::U16(a) => a as u32,
+        Operand::Offset(_) => 0,
+        Operand::U8U8(_, b) => b as u32,
+        Operand::U16U8(_, b) => b as u32,
+        Operand::U16U16(_, b) => b as u32,
+        Operand::U16U8U8(_, _, c) => c as u32,
+        Operand::CallKw {
+            positional: _,
+            names,
+        } => names as u32,
+        Operand::CallAttrKw {
+            attribute: _,
+            positional: _,
+            names,
+        } => names as u32,
+        Operand::U16U16U8(_, _, c) => c as u32,
+    }
+}
+
+// The number before it, where an effect goes by it.
+fn former(operand: Operand) -> u32
+    ensures { λ r. ⌜ (r ≡ formerOf operand) × (r < 256) ⌝ }
+{
+    match operand {
+        Operand::None => 0,
+        Operand::U8(_) => 0,
+        Operand::I8(_) => 0,
+        Operand::U16(_) => 0,
+        Operand::Offset(_) => 0,
+        Operand::U8U8(a, _) => a as u32,
+        Operand::U16U8(_, _) => 0,
+        Operand::U16U16(_, _) => 0,
+        Operand::U16U8U8(_, b, _) => b as u32,
+        Operand::CallKw {
+            positional,
+            names: _,
+        } => positional as u32,
+        Operand::CallAttrKw {
+            attribute: _,
+            positional,
+            names: _,
+        } => positional as u32,
+        Operand::U16U16U8(_, _, _) => 0,
+    }
+}
+
+// The effect of an instruction that falls through: refuses 1, then 2.
+pub fn effect(opcode: u8, operand: Operand) -> Effect
+    ensures { λ r. ⌜ (r ≡ effectOf opcode operand) × Small r ⌝ }
+{
+    let shaped = shapes::operand_shape(opcode);
+    let Shaped::Is(shape) = shaped else {
+        return Effect::Refused(Refusal::UnknownOpcode);
+    };
+    if shapes::number(shape) != shapes::number(shapes::of_operand(operand)) {
+        return Effect::Refused(Refusal::WrongShape);
+    }
+    rule_effect(rule_number(opcode), former(operand), last(operand))
+}
+
+// The effect of a taken jump: refuses 1, then 3.
+pub fn taken_effect(opcode: u8) -> Effect
+    ensures { λ r. ⌜ r ≡ takenOf opcode ⌝ }
+{
+    if opcodes::LAST < opcode {
+        return Effect::Refused(Refusal::UnknownOpcode);
+    }
+    match opcode {
+        opcodes::JUMP => Effect::By { up: 0, down: 0 },
+        opcodes::JUMP_IF_TRUE => Effect::By { up: 0, down: 1 },
+        opcodes::JUMP_IF_FALSE => Effect::By { up: 0, down: 1 },
+        opcodes::JUMP_IF_TRUE_OR_POP => Effect::By { up: 0, down: 0 },
+        opcodes::JUMP_IF_FALSE_OR_POP => Effect::By { up: 0, down: 0 },
+        opcodes::FOR_ITER => Effect::By { up: 0, down: 1 },
+        _ => Effect::Refused(Refusal::NotAJump),
+    }
+}
+
+// An effect as one signed number.
+fn net(effect: Effect) -> NetEffect
+    requires { ⌜ Small effect ⌝ }
+    ensures { λ r. ⌜ r ≡ netOf effect ⌝ }
+{
+    match effect {
+        Effect::By { up, down } => NetEffect::Net(up as i32 - down as i32),
+        Effect::Refused(refusal) => NetEffect::Refused(refusal),
+    }
+}
+
+// op.rs, `stack_effect`: refuses 1, then 2.
+pub fn stack_effect(opcode: u8, operand: Operand) -> NetEffect
+    ensures { λ r. ⌜ r ≡ netOf (effectOf opcode operand) ⌝ }
+{
+    net(effect(opcode, operand))
+}
+
+// op.rs, `jump_taken_stack_effect`: refuses 1, then 3.
+pub fn jump_taken_stack_effect(opcode: u8) -> NetEffect
+    ensures { λ r. ⌜ r ≡ netOf (takenOf opcode) ⌝ }
+{
+    net(taken_effect(opcode))
+}
+
+// Whether the code behind an opcode is dead; no number above the last opcode's makes it so.
+pub fn is_dead_maker(opcode: u8) -> bool
+    ensures { λ r. ⌜ r ≡ deadMaker opcode ⌝ }
+{
+    match opcode {
+        opcodes::RETURN_VALUE => true,
+        opcodes::RAISE => true,
+        opcodes::RERAISE => true,
+        opcodes::RAISE_UNBOUND_LOCAL => true,
+        opcodes::ASSERT_FAILED => true,
+        opcodes::JUMP => true,
+        _ => false,
+    }
+}
+
+// What the code behind an opcode is: refuses 1.
+pub fn makes_dead(opcode: u8) -> Deadness
+    ensures { λ r. ⌜ r ≡ deadnessOf opcode ⌝ }
+{
+    if opcodes::LAST < opcode {
+        return Deadness::Refused(Refusal::UnknownOpcode);
+    }
+    if is_dead_maker(opcode) {
+        return Deadness::Dead;
+    }
+    Deadness::Live
+}

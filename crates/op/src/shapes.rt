@@ -1,0 +1,215 @@
+// The shapes of operands and the sizes of instructions.
+ghost use mathlib.Core.Path.{_≡_};
+ghost use Rattle.op.specs.Shapes.{shapeNumber, shapeOf, operandShape, sizeOf};
+use crate::Operand;
+use crate::Refusal;
+use crate::Shape;
+use crate::Shaped;
+use crate::opcodes;
+
+// An opcode's shape. One arm for each opcode: neighbours joined by `|` would become a chain of range tests.
+pub fn operand_shape(opcode: u8) -> Shaped
+    ensures { λ r. ⌜ r ≡ shapeOf opcode ⌝ }
+{
+    match opcode {
+        opcodes::POP => Shaped::Is(Shape::None),
+        opcodes::DUP => Shaped::Is(Shape::None),
+        opcodes::ROT2 => Shaped::Is(Shape::None),
+        opcodes::ROT3 => Shaped::Is(Shape::None),
+        opcodes::LOAD_CONST => Shaped::Is(Shape::U16),
+        opcodes::LOAD_NONE => Shaped::Is(Shape::None),
+        opcodes::LOAD_TRUE => Shaped::Is(Shape::None),
+        opcodes::LOAD_FALSE => Shaped::Is(Shape::None),
+        opcodes::LOAD_SMALL_INT => Shaped::Is(Shape::I8),
+        opcodes::LOAD_LOCAL0 => Shaped::Is(Shape::None),
+        opcodes::LOAD_LOCAL1 => Shaped::Is(Shape::None),
+        opcodes::LOAD_LOCAL2 => Shaped::Is(Shape::None),
+        opcodes::LOAD_LOCAL3 => Shaped::Is(Shape::None),
+        opcodes::LOAD_LOCAL => Shaped::Is(Shape::U8),
+        opcodes::LOAD_LOCAL_W => Shaped::Is(Shape::U16),
+        opcodes::STORE_LOCAL => Shaped::Is(Shape::U8),
+        opcodes::STORE_LOCAL_W => Shaped::Is(Shape::U16),
+        opcodes::LOAD_GLOBAL => Shaped::Is(Shape::U16),
+        opcodes::STORE_GLOBAL => Shaped::Is(Shape::U16),
+        opcodes::LOAD_CELL => Shaped::Is(Shape::U16),
+        opcodes::STORE_CELL => Shaped::Is(Shape::U16),
+        opcodes::DELETE_LOCAL => Shaped::Is(Shape::U8),
+        opcodes::LOAD_GLOBAL_CALLABLE => Shaped::Is(Shape::U16U16),
+        opcodes::BINARY_ADD => Shaped::Is(Shape::None),
+        opcodes::BINARY_SUB => Shaped::Is(Shape::None),
+        opcodes::BINARY_MUL => Shaped::Is(Shape::None),
+        opcodes::BINARY_DIV => Shaped::Is(Shape::None),
+        opcodes::BINARY_FLOOR_DIV => Shaped::Is(Shape::None),
+        opcodes::BINARY_MOD => Shaped::Is(Shape::None),
+        opcodes::BINARY_POW => Shaped::Is(Shape::None),
+        opcodes::BINARY_AND => Shaped::Is(Shape::None),
+        opcodes::BINARY_OR => Shaped::Is(Shape::None),
+        opcodes::BINARY_XOR => Shaped::Is(Shape::None),
+        opcodes::BINARY_LSHIFT => Shaped::Is(Shape::None),
+        opcodes::BINARY_RSHIFT => Shaped::Is(Shape::None),
+        opcodes::BINARY_MAT_MUL => Shaped::Is(Shape::None),
+        opcodes::COMPARE_EQ => Shaped::Is(Shape::None),
+        opcodes::COMPARE_NE => Shaped::Is(Shape::None),
+        opcodes::COMPARE_LT => Shaped::Is(Shape::None),
+        opcodes::COMPARE_LE => Shaped::Is(Shape::None),
+        opcodes::COMPARE_GT => Shaped::Is(Shape::None),
+        opcodes::COMPARE_GE => Shaped::Is(Shape::None),
+        opcodes::COMPARE_IS => Shaped::Is(Shape::None),
+        opcodes::COMPARE_IS_NOT => Shaped::Is(Shape::None),
+        opcodes::COMPARE_IN => Shaped::Is(Shape::None),
+        opcodes::COMPARE_NOT_IN => Shaped::Is(Shape::None),
+        opcodes::UNARY_NOT => Shaped::Is(Shape::None),
+        opcodes::UNARY_NEG => Shaped::Is(Shape::None),
+        opcodes::UNARY_POS => Shaped::Is(Shape::None),
+        opcodes::UNARY_INVERT => Shaped::Is(Shape::None),
+        opcodes::INPLACE_ADD => Shaped::Is(Shape::None),
+        opcodes::INPLACE_SUB => Shaped::Is(Shape::None),
+        opcodes::INPLACE_MUL => Shaped::Is(Shape::None),
+        opcodes::INPLACE_DIV => Shaped::Is(Shape::None),
+        opcodes::INPLACE_FLOOR_DIV => Shaped::Is(Shape::None),
+        opcodes::INPLACE_MOD => Shaped::Is(Shape::None),
+        opcodes::INPLACE_POW => Shaped::Is(Shape::None),
+        opcodes::INPLACE_AND => Shaped::Is(Shape::None),
+        opcodes::INPLACE_OR => Shaped::Is(Shape::None),
+        opcodes::INPLACE_XOR => Shaped::Is(Shape::None),
+        opcodes::INPLACE_LSHIFT => Shaped::Is(Shape::None),
+        opcodes::INPLACE_RSHIFT => Shaped::Is(Shape::None),
+        opcodes::BUILD_LIST => Shaped::Is(Shape::U16),
+        opcodes::BUILD_TUPLE => Shaped::Is(Shape::U16),
+        opcodes::BUILD_DICT => Shaped::Is(Shape::U16),
+        opcodes::BUILD_SET => Shaped::Is(Shape::U16),
+        opcodes::FORMAT_VALUE => Shaped::Is(Shape::U8),
+        opcodes::BUILD_FSTRING => Shaped::Is(Shape::U16),
+        opcodes::BUILD_SLICE => Shaped::Is(Shape::None),
+        opcodes::LIST_EXTEND => Shaped::Is(Shape::None),
+        opcodes::LIST_TO_TUPLE => Shaped::Is(Shape::None),
+        opcodes::DICT_MERGE => Shaped::Is(Shape::U16),
+        opcodes::LIST_APPEND => Shaped::Is(Shape::U8),
+        opcodes::SET_ADD => Shaped::Is(Shape::U8),
+        opcodes::DICT_SET_ITEM => Shaped::Is(Shape::U8),
+        opcodes::BINARY_SUBSCR => Shaped::Is(Shape::None),
+        opcodes::STORE_SUBSCR => Shaped::Is(Shape::None),
+        opcodes::LOAD_ATTR => Shaped::Is(Shape::U16),
+        opcodes::LOAD_ATTR_IMPORT => Shaped::Is(Shape::U16),
+        opcodes::STORE_ATTR => Shaped::Is(Shape::U16),
+        opcodes::CALL_FUNCTION => Shaped::Is(Shape::U8),
+        opcodes::CALL_BUILTIN_FUNCTION => Shaped::Is(Shape::U8U8),
+        opcodes::CALL_BUILTIN_TYPE => Shaped::Is(Shape::U8U8),
+        opcodes::CALL_FUNCTION_KW => Shaped::Is(Shape::CallKw),
+        opcodes::CALL_ATTR => Shaped::Is(Shape::U16U8),
+        opcodes::CALL_ATTR_KW => Shaped::Is(Shape::CallAttrKw),
+        opcodes::CALL_FUNCTION_EXTENDED => Shaped::Is(Shape::U8),
+        opcodes::CALL_ATTR_EXTENDED => Shaped::Is(Shape::U16U8),
+        opcodes::JUMP => Shaped::Is(Shape::Offset),
+        opcodes::JUMP_IF_TRUE => Shaped::Is(Shape::Offset),
+        opcodes::JUMP_IF_FALSE => Shaped::Is(Shape::Offset),
+        opcodes::JUMP_IF_TRUE_OR_POP => Shaped::Is(Shape::Offset),
+        opcodes::JUMP_IF_FALSE_OR_POP => Shaped::Is(Shape::Offset),
+        opcodes::GET_ITER => Shaped::Is(Shape::None),
+        opcodes::FOR_ITER => Shaped::Is(Shape::Offset),
+        opcodes::MAKE_FUNCTION => Shaped::Is(Shape::U16U8),
+        opcodes::MAKE_CLOSURE => Shaped::Is(Shape::U16U8U8),
+        opcodes::RAISE => Shaped::Is(Shape::None),
+        opcodes::RERAISE => Shaped::Is(Shape::None),
+        opcodes::CLEAR_EXCEPTION => Shaped::Is(Shape::None),
+        opcodes::CHECK_EXC_MATCH => Shaped::Is(Shape::None),
+        opcodes::RETURN_VALUE => Shaped::Is(Shape::None),
+        opcodes::AWAIT => Shaped::Is(Shape::None),
+        opcodes::UNPACK_SEQUENCE => Shaped::Is(Shape::U8),
+        opcodes::UNPACK_EX => Shaped::Is(Shape::U8U8),
+        opcodes::NOP => Shaped::Is(Shape::None),
+        opcodes::LOAD_MODULE => Shaped::Is(Shape::U16),
+        opcodes::LOAD_SUBMODULE => Shaped::Is(Shape::U16U16),
+        opcodes::DUP2 => Shaped::Is(Shape::None),
+        opcodes::DELETE_GLOBAL => Shaped::Is(Shape::U16),
+        opcodes::DICT_UPDATE => Shaped::Is(Shape::U8),
+        opcodes::SET_EXTEND => Shaped::Is(Shape::U8),
+        opcodes::BEFORE_WITH => Shaped::Is(Shape::None),
+        opcodes::WITH_EXIT => Shaped::Is(Shape::None),
+        opcodes::WITH_EXCEPT_START => Shaped::Is(Shape::None),
+        opcodes::LIFT_TO_TOP => Shaped::Is(Shape::U8),
+        opcodes::RAISE_UNBOUND_LOCAL => Shaped::Is(Shape::U16),
+        opcodes::METHOD_DICT_MERGE => Shaped::Is(Shape::U16),
+        opcodes::ASSERT => Shaped::Is(Shape::U8),
+        opcodes::ASSERT_FAILED => Shaped::Is(Shape::U8),
+        opcodes::BUILD_CELL => Shaped::Is(Shape::None),
+        opcodes::DELETE_CELL => Shaped::Is(Shape::U16),
+        opcodes::LOAD_NAME => Shaped::Is(Shape::U16U16U8),
+        opcodes::STORE_NAME => Shaped::Is(Shape::U16U16U8),
+        opcodes::DELETE_NAME => Shaped::Is(Shape::U16U16U8),
+        opcodes::MATCH_SHAPE => Shaped::Is(Shape::U16U8),
+        opcodes::MATCH_KEYS => Shaped::Is(Shape::U8),
+        opcodes::MATCH_CLASS => Shaped::Is(Shape::U8),
+        opcodes::MATCH_ATTR => Shaped::Is(Shape::U8),
+        opcodes::SINK_TOP => Shaped::Is(Shape::U8),
+        opcodes::RAISE_FROM => Shaped::Is(Shape::None),
+        _ => Shaped::Refused(Refusal::UnknownOpcode),
+    }
+}
+
+// A shape's number in op.rs.
+pub fn number(shape: Shape) -> u8
+    ensures { λ r. ⌜ r ≡ shapeNumber shape ⌝ }
+{
+    match shape {
+        Shape::None => 0,
+        Shape::U8 => 1,
+        Shape::I8 => 2,
+        Shape::U16 => 3,
+        Shape::Offset => 4,
+        Shape::U8U8 => 5,
+        Shape::U16U8 => 6,
+        Shape::U16U16 => 7,
+        Shape::U16U8U8 => 8,
+        Shape::CallKw => 9,
+        Shape::CallAttrKw => 10,
+        Shape::U16U16U8 => 11,
+    }
+}
+
+// An operand's shape.
+pub fn of_operand(operand: Operand) -> Shape
+    ensures { λ r. ⌜ r ≡ operandShape operand ⌝ }
+{
+    match operand {
+        Operand::None => Shape::None,
+        Operand::U8(_) => Shape::U8,
+        Operand::I8(_) => Shape::I8,
+        Operand::U16(_) => Shape::U16,
+        Operand::Offset(_) => Shape::Offset,
+        Operand::U8U8(_, _) => Shape::U8U8,
+        Operand::U16U8(_, _) => Shape::U16U8,
+        Operand::U16U16(_, _) => Shape::U16U16,
+        Operand::U16U8U8(_, _, _) => Shape::U16U8U8,
+        Operand::CallKw {
+            positional: _,
+            names: _,
+        } => Shape::CallKw,
+        Operand::CallAttrKw {
+            attribute: _,
+            positional: _,
+            names: _,
+        } => Shape::CallAttrKw,
+        Operand::U16U16U8(_, _, _) => Shape::U16U16U8,
+    }
+}
+
+// How many bytes an instruction of a shape has, with so many keyword names.
+pub fn instruction_size(shape: Shape, names: u8) -> usize
+    ensures { λ r. ⌜ r ≡ sizeOf shape names ⌝ }
+{
+    match shape {
+        Shape::None => 1,
+        Shape::U8 => 2,
+        Shape::I8 => 2,
+        Shape::U16 => 3,
+        Shape::Offset => 3,
+        Shape::U8U8 => 3,
+        Shape::U16U8 => 4,
+        Shape::U16U16 => 5,
+        Shape::U16U8U8 => 5,
+        Shape::CallKw => 3 + 2 * names as usize,
+        Shape::CallAttrKw => 5 + 2 * names as usize,
+        Shape::U16U16U8 => 6,
+    }
+}

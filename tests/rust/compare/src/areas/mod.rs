@@ -1,0 +1,39 @@
+//! The areas of the comparison, one module for each. An area asks the Rust by `original`, the library by
+//! `proved`, and hands both answers to its tally.
+
+mod assert_flags;
+mod dead;
+mod depth_after;
+mod depth_taken;
+mod effect;
+mod name;
+mod shape;
+mod size;
+mod taken;
+
+use crate::{Plan, original, tally::Tally};
+
+type Area = fn(&mut Tally, &mut Plan);
+
+pub const ALL: [(&str, Area); 9] = [
+    ("shape", shape::run),
+    ("effect", effect::run),
+    ("taken", taken::run),
+    ("dead", dead::run),
+    ("depth after", depth_after::run),
+    ("depth taken", depth_taken::run),
+    ("size", size::run),
+    ("name", name::run),
+    ("assert flags", assert_flags::run),
+];
+
+/// An opcode for a printed case: its number, and its name where it has one.
+fn named(byte: u8) -> String {
+    original::opcode(byte).map_or_else(|| format!("opcode {byte}"), |op| format!("opcode {byte} {op:?}"))
+}
+
+/// Each opcode byte that the Rust knows, with the number of its shape.
+fn opcodes_with_shapes() -> Vec<(u8, u8)> {
+    let known = (0..=u8::MAX).filter_map(original::opcode);
+    known.map(|op| (op as u8, original::shape(op))).collect()
+}

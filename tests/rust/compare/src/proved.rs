@@ -1,0 +1,94 @@
+//! The proved library, as include/tokenfinch.h declares it.
+
+use std::fmt;
+
+use crate::operand::Fields;
+
+mod c {
+    unsafe extern "C" {
+        pub safe fn tf_operand_shape(opcode: u8) -> u64;
+        pub safe fn tf_stack_effect(opcode: u8, shape: u8, a: u16, b: u16, c: u8, names: u8) -> u64;
+        pub safe fn tf_jump_taken_stack_effect(opcode: u8) -> u64;
+        pub safe fn tf_makes_dead(opcode: u8) -> u64;
+        pub safe fn tf_depth_after(depth: u16, opcode: u8, shape: u8, a: u16, b: u16, c: u8, names: u8) -> u64;
+        pub safe fn tf_depth_taken(depth: u16, opcode: u8) -> u64;
+        pub safe fn tf_instruction_size(opcode: u8, names: u8) -> u64;
+        pub safe fn tf_assert_flags(comparison: u8) -> u8;
+        pub safe fn tf_decode_assert_flags(flags: u8) -> u8;
+        /// `out` has `room` bytes that can be written; it may be null where `room` is 0.
+        pub unsafe fn tf_opcode_name(opcode: u8, out: *mut u8, room: usize) -> u64;
+    }
+}
+
+/// An answer as it crosses: the refusal's number in the upper half, the value in the lower.
+#[derive(Clone, Copy, PartialEq, Eq)]
+pub struct Answer(u64);
+
+impl Answer {
+    pub fn accepted(value: i32) -> Self {
+        Self(u64::from(value.cast_unsigned()))
+    }
+
+    pub fn refused(number: u32) -> Self {
+        Self(u64::from(number) << 32)
+    }
+}
+
+impl fmt::Debug for Answer {
+    fn fmt(&self, f: &mut fmt::Formatter<'_>) -> fmt::Result {
+        match (self.0 >> 32, (self.0 as u32).cast_signed()) {
+            (0, value) => write!(f, "accepted {value}"),
+            (number, 0) => write!(f, "refused {number}"),
+            (number, value) => write!(f, "refused {number} beside the value {value}"),
+        }
+    }
+}
+
+pub fn operand_shape(opcode: u8) -> Answer {
+    Answer(c::tf_operand_shape(opcode))
+}
+
+pub fn stack_effect(opcode: u8, shape: u8, fields: Fields) -> Answer {
+    let Fields { a, b, c, names } = fields;
+    Answer(c::tf_stack_effect(opcode, shape, a, b, c, names))
+}
+
+pub fn jump_taken_stack_effect(opcode: u8) -> Answer {
+    Answer(c::tf_jump_taken_stack_effect(opcode))
+}
+
+pub fn makes_dead(opcode: u8) -> Answer {
+    Answer(c::tf_makes_dead(opcode))
+}
+
+pub fn depth_after(depth: u16, opcode: u8, shape: u8, fields: Fields) -> Answer {
+    let Fields { a, b, c, names } = fields;
+    Answer(c::tf_depth_after(depth, opcode, shape, a, b, c, names))
+}
+
+pub fn depth_taken(depth: u16, opcode: u8) -> Answer {
+    Answer(c::tf_depth_taken(depth, opcode))
+}
+
+pub fn instruction_size(opcode: u8, names: u8) -> Answer {
+    Answer(c::tf_instruction_size(opcode, names))
+}
+
+pub fn opcode_name(opcode: u8, out: &mut [u8]) -> Answer {
+    // SAFETY: the slice is as long as is said.
+    Answer(unsafe { c::tf_opcode_name(opcode, out.as_mut_ptr(), out.len()) })
+}
+
+/// The name into no room at all, by a null pointer.
+pub fn opcode_name_nowhere(opcode: u8) -> Answer {
+    // SAFETY: the header takes null for no room.
+    Answer(unsafe { c::tf_opcode_name(opcode, std::ptr::null_mut(), 0) })
+}
+
+pub fn assert_flags(comparison: u8) -> u8 {
+    c::tf_assert_flags(comparison)
+}
+
+pub fn decode_assert_flags(flags: u8) -> u8 {
+    c::tf_decode_assert_flags(flags)
+}
