@@ -1,1 +1,14 @@
 pub mod Twos
+pub mod Sizes
+pub mod Decoding
+pub mod Ranges
+pub mod Inverse
+pub mod Stores
+pub mod Writing
+pub mod Flows
+pub mod Examples
+pub mod First
+pub mod Rows
+pub mod Rising
+pub mod Joined
+pub mod ExampleH

@@ -6,3 +6,4 @@ pub mod Rules
 pub mod Flagged
 pub mod Effected
 pub mod Named
+pub mod Shaping

@@ -12,6 +12,7 @@ use lib.Seq.{take-at, drop-append-add}
 use borrow.Author.Tests.{le-leb, lt-leb}
 use Rattle.op.specs.Choice.{pick}
 use Rattle.op.specs.Opcodes.{Row, op, same, table, rowOf}
+use Rattle.op.specs.Opcodes.{Jump, JumpIfTrue, JumpIfFalse, JumpIfTrueOrPop, JumpIfFalseOrPop, ForIter, Raise, Reraise, ReturnValue, RaiseUnboundLocal, AssertFailed}
 use Rattle.op.specs.Names.{ascii, nameIn, nameOf, joined, begins, nameText, nameStarts, between, nameBy}
 use Rattle.op.specs.declared.Shape.the-variants.{None}
 use Rattle.op.proofs.Listed.{rows}
@@ -78,3 +79,18 @@ unfolding nameBy
 past-starts text starts k h =
     let z : getD starts (k + 1) 0 ≡ 0 = List·getD-eq-default starts 0 {n = k + 1} h in
     rw z (empty-part text (getD starts k 0) 0 (omega arith) (omega arith))
+
+-- the opcodes that the rules name have those names
+pub named : (nameOf Jump ≡ ascii "Jump")
+    × (nameOf JumpIfTrue ≡ ascii "JumpIfTrue")
+    × (nameOf JumpIfFalse ≡ ascii "JumpIfFalse")
+    × (nameOf JumpIfTrueOrPop ≡ ascii "JumpIfTrueOrPop")
+    × (nameOf JumpIfFalseOrPop ≡ ascii "JumpIfFalseOrPop")
+    × (nameOf ForIter ≡ ascii "ForIter")
+    × (nameOf Raise ≡ ascii "Raise")
+    × (nameOf Reraise ≡ ascii "Reraise")
+    × (nameOf ReturnValue ≡ ascii "ReturnValue")
+    × (nameOf RaiseUnboundLocal ≡ ascii "RaiseUnboundLocal")
+    × (nameOf AssertFailed ≡ ascii "AssertFailed")
+unfolding nameOf rowOf table
+named = (refl, refl, refl, refl, refl, refl, refl, refl, refl, refl, refl)

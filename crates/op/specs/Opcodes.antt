@@ -50,135 +50,135 @@ pub data Row : Type 0 where
 unfoldable pub table : List Row
 table =
     op "Pop" None minus1 ∷  -- 0
-    op "Dup" None plus1 ∷
-    op "Rot2" None same ∷
-    op "Rot3" None same ∷
-    op "LoadConst" U16 plus1 ∷
-    op "LoadNone" None plus1 ∷
-    op "LoadTrue" None plus1 ∷
-    op "LoadFalse" None plus1 ∷
-    op "LoadSmallInt" I8 plus1 ∷
-    op "LoadLocal0" None plus1 ∷
+    op "Dup" None plus1 ∷  -- 1
+    op "Rot2" None same ∷  -- 2
+    op "Rot3" None same ∷  -- 3
+    op "LoadConst" U16 plus1 ∷  -- 4
+    op "LoadNone" None plus1 ∷  -- 5
+    op "LoadTrue" None plus1 ∷  -- 6
+    op "LoadFalse" None plus1 ∷  -- 7
+    op "LoadSmallInt" I8 plus1 ∷  -- 8
+    op "LoadLocal0" None plus1 ∷  -- 9
     op "LoadLocal1" None plus1 ∷  -- 10
-    op "LoadLocal2" None plus1 ∷
-    op "LoadLocal3" None plus1 ∷
-    op "LoadLocal" U8 plus1 ∷
-    op "LoadLocalW" U16 plus1 ∷
-    op "StoreLocal" U8 minus1 ∷
-    op "StoreLocalW" U16 minus1 ∷
-    op "LoadGlobal" U16 plus1 ∷
-    op "StoreGlobal" U16 minus1 ∷
-    op "LoadCell" U16 plus1 ∷
+    op "LoadLocal2" None plus1 ∷  -- 11
+    op "LoadLocal3" None plus1 ∷  -- 12
+    op "LoadLocal" U8 plus1 ∷  -- 13
+    op "LoadLocalW" U16 plus1 ∷  -- 14
+    op "StoreLocal" U8 minus1 ∷  -- 15
+    op "StoreLocalW" U16 minus1 ∷  -- 16
+    op "LoadGlobal" U16 plus1 ∷  -- 17
+    op "StoreGlobal" U16 minus1 ∷  -- 18
+    op "LoadCell" U16 plus1 ∷  -- 19
     op "StoreCell" U16 minus1 ∷  -- 20
-    op "DeleteLocal" U8 same ∷
-    op "LoadGlobalCallable" U16U16 plus1 ∷
-    op "BinaryAdd" None minus1 ∷
-    op "BinarySub" None minus1 ∷
-    op "BinaryMul" None minus1 ∷
-    op "BinaryDiv" None minus1 ∷
-    op "BinaryFloorDiv" None minus1 ∷
-    op "BinaryMod" None minus1 ∷
-    op "BinaryPow" None minus1 ∷
+    op "DeleteLocal" U8 same ∷  -- 21
+    op "LoadGlobalCallable" U16U16 plus1 ∷  -- 22
+    op "BinaryAdd" None minus1 ∷  -- 23
+    op "BinarySub" None minus1 ∷  -- 24
+    op "BinaryMul" None minus1 ∷  -- 25
+    op "BinaryDiv" None minus1 ∷  -- 26
+    op "BinaryFloorDiv" None minus1 ∷  -- 27
+    op "BinaryMod" None minus1 ∷  -- 28
+    op "BinaryPow" None minus1 ∷  -- 29
     op "BinaryAnd" None minus1 ∷  -- 30
-    op "BinaryOr" None minus1 ∷
-    op "BinaryXor" None minus1 ∷
-    op "BinaryLShift" None minus1 ∷
-    op "BinaryRShift" None minus1 ∷
-    op "BinaryMatMul" None minus1 ∷
-    op "CompareEq" None minus1 ∷
-    op "CompareNe" None minus1 ∷
-    op "CompareLt" None minus1 ∷
-    op "CompareLe" None minus1 ∷
+    op "BinaryOr" None minus1 ∷  -- 31
+    op "BinaryXor" None minus1 ∷  -- 32
+    op "BinaryLShift" None minus1 ∷  -- 33
+    op "BinaryRShift" None minus1 ∷  -- 34
+    op "BinaryMatMul" None minus1 ∷  -- 35
+    op "CompareEq" None minus1 ∷  -- 36
+    op "CompareNe" None minus1 ∷  -- 37
+    op "CompareLt" None minus1 ∷  -- 38
+    op "CompareLe" None minus1 ∷  -- 39
     op "CompareGt" None minus1 ∷  -- 40
-    op "CompareGe" None minus1 ∷
-    op "CompareIs" None minus1 ∷
-    op "CompareIsNot" None minus1 ∷
-    op "CompareIn" None minus1 ∷
-    op "CompareNotIn" None minus1 ∷
-    op "UnaryNot" None same ∷
-    op "UnaryNeg" None same ∷
-    op "UnaryPos" None same ∷
-    op "UnaryInvert" None same ∷
+    op "CompareGe" None minus1 ∷  -- 41
+    op "CompareIs" None minus1 ∷  -- 42
+    op "CompareIsNot" None minus1 ∷  -- 43
+    op "CompareIn" None minus1 ∷  -- 44
+    op "CompareNotIn" None minus1 ∷  -- 45
+    op "UnaryNot" None same ∷  -- 46
+    op "UnaryNeg" None same ∷  -- 47
+    op "UnaryPos" None same ∷  -- 48
+    op "UnaryInvert" None same ∷  -- 49
     op "InplaceAdd" None minus1 ∷  -- 50
-    op "InplaceSub" None minus1 ∷
-    op "InplaceMul" None minus1 ∷
-    op "InplaceDiv" None minus1 ∷
-    op "InplaceFloorDiv" None minus1 ∷
-    op "InplaceMod" None minus1 ∷
-    op "InplacePow" None minus1 ∷
-    op "InplaceAnd" None minus1 ∷
-    op "InplaceOr" None minus1 ∷
-    op "InplaceXor" None minus1 ∷
+    op "InplaceSub" None minus1 ∷  -- 51
+    op "InplaceMul" None minus1 ∷  -- 52
+    op "InplaceDiv" None minus1 ∷  -- 53
+    op "InplaceFloorDiv" None minus1 ∷  -- 54
+    op "InplaceMod" None minus1 ∷  -- 55
+    op "InplacePow" None minus1 ∷  -- 56
+    op "InplaceAnd" None minus1 ∷  -- 57
+    op "InplaceOr" None minus1 ∷  -- 58
+    op "InplaceXor" None minus1 ∷  -- 59
     op "InplaceLShift" None minus1 ∷  -- 60
-    op "InplaceRShift" None minus1 ∷
-    op "BuildList" U16 one-minus-n ∷
-    op "BuildTuple" U16 one-minus-n ∷
-    op "BuildDict" U16 one-minus-2n ∷
-    op "BuildSet" U16 one-minus-n ∷
-    op "FormatValue" U8 format ∷
-    op "BuildFString" U16 one-minus-n ∷
-    op "BuildSlice" None minus2 ∷
-    op "ListExtend" None minus1 ∷
+    op "InplaceRShift" None minus1 ∷  -- 61
+    op "BuildList" U16 one-minus-n ∷  -- 62
+    op "BuildTuple" U16 one-minus-n ∷  -- 63
+    op "BuildDict" U16 one-minus-2n ∷  -- 64
+    op "BuildSet" U16 one-minus-n ∷  -- 65
+    op "FormatValue" U8 format ∷  -- 66
+    op "BuildFString" U16 one-minus-n ∷  -- 67
+    op "BuildSlice" None minus2 ∷  -- 68
+    op "ListExtend" None minus1 ∷  -- 69
     op "ListToTuple" None same ∷  -- 70
-    op "DictMerge" U16 minus1 ∷
-    op "ListAppend" U8 minus1 ∷
-    op "SetAdd" U8 minus1 ∷
-    op "DictSetItem" U8 minus2 ∷
-    op "BinarySubscr" None minus1 ∷
-    op "StoreSubscr" None minus3 ∷
-    op "LoadAttr" U16 same ∷
-    op "LoadAttrImport" U16 same ∷
-    op "StoreAttr" U16 minus2 ∷
+    op "DictMerge" U16 minus1 ∷  -- 71
+    op "ListAppend" U8 minus1 ∷  -- 72
+    op "SetAdd" U8 minus1 ∷  -- 73
+    op "DictSetItem" U8 minus2 ∷  -- 74
+    op "BinarySubscr" None minus1 ∷  -- 75
+    op "StoreSubscr" None minus3 ∷  -- 76
+    op "LoadAttr" U16 same ∷  -- 77
+    op "LoadAttrImport" U16 same ∷  -- 78
+    op "StoreAttr" U16 minus2 ∷  -- 79
     op "CallFunction" U8 minus-n ∷  -- 80
-    op "CallBuiltinFunction" U8U8 one-minus-n ∷
-    op "CallBuiltinType" U8U8 one-minus-n ∷
-    op "CallFunctionKw" CallKw minus-both ∷
-    op "CallAttr" U16U8 minus-n ∷
-    op "CallAttrKw" CallAttrKw minus-both ∷
-    op "CallFunctionExtended" U8 extended ∷
-    op "CallAttrExtended" U16U8 extended ∷
-    op "Jump" Offset same ∷
-    op "JumpIfTrue" Offset minus1 ∷
+    op "CallBuiltinFunction" U8U8 one-minus-n ∷  -- 81
+    op "CallBuiltinType" U8U8 one-minus-n ∷  -- 82
+    op "CallFunctionKw" CallKw minus-both ∷  -- 83
+    op "CallAttr" U16U8 minus-n ∷  -- 84
+    op "CallAttrKw" CallAttrKw minus-both ∷  -- 85
+    op "CallFunctionExtended" U8 extended ∷  -- 86
+    op "CallAttrExtended" U16U8 extended ∷  -- 87
+    op "Jump" Offset same ∷  -- 88
+    op "JumpIfTrue" Offset minus1 ∷  -- 89
     op "JumpIfFalse" Offset minus1 ∷  -- 90
-    op "JumpIfTrueOrPop" Offset minus1 ∷
-    op "JumpIfFalseOrPop" Offset minus1 ∷
-    op "GetIter" None same ∷
-    op "ForIter" Offset plus1 ∷
-    op "MakeFunction" U16U8 one-minus-n ∷
-    op "MakeClosure" U16U8U8 one-minus-both ∷
-    op "Raise" None minus1 ∷
-    op "Reraise" None same ∷
-    op "ClearException" None same ∷
+    op "JumpIfTrueOrPop" Offset minus1 ∷  -- 91
+    op "JumpIfFalseOrPop" Offset minus1 ∷  -- 92
+    op "GetIter" None same ∷  -- 93
+    op "ForIter" Offset plus1 ∷  -- 94
+    op "MakeFunction" U16U8 one-minus-n ∷  -- 95
+    op "MakeClosure" U16U8U8 one-minus-both ∷  -- 96
+    op "Raise" None minus1 ∷  -- 97
+    op "Reraise" None same ∷  -- 98
+    op "ClearException" None same ∷  -- 99
     op "CheckExcMatch" None same ∷  -- 100
-    op "ReturnValue" None minus1 ∷
-    op "Await" None same ∷
-    op "UnpackSequence" U8 n-minus-one ∷
-    op "UnpackEx" U8U8 both ∷
-    op "Nop" None same ∷
-    op "LoadModule" U16 plus1 ∷
-    op "LoadSubmodule" U16U16 same ∷
-    op "Dup2" None plus2 ∷
-    op "DeleteGlobal" U16 same ∷
+    op "ReturnValue" None minus1 ∷  -- 101
+    op "Await" None same ∷  -- 102
+    op "UnpackSequence" U8 n-minus-one ∷  -- 103
+    op "UnpackEx" U8U8 both ∷  -- 104
+    op "Nop" None same ∷  -- 105
+    op "LoadModule" U16 plus1 ∷  -- 106
+    op "LoadSubmodule" U16U16 same ∷  -- 107
+    op "Dup2" None plus2 ∷  -- 108
+    op "DeleteGlobal" U16 same ∷  -- 109
     op "DictUpdate" U8 minus1 ∷  -- 110
-    op "SetExtend" U8 minus1 ∷
-    op "BeforeWith" None plus1 ∷
-    op "WithExit" None same ∷
-    op "WithExceptStart" None plus1 ∷
-    op "LiftToTop" U8 same ∷
-    op "RaiseUnboundLocal" U16 same ∷
-    op "MethodDictMerge" U16 minus1 ∷
-    op "Assert" U8 assert ∷
-    op "AssertFailed" U8 assert-failed ∷
+    op "SetExtend" U8 minus1 ∷  -- 111
+    op "BeforeWith" None plus1 ∷  -- 112
+    op "WithExit" None same ∷  -- 113
+    op "WithExceptStart" None plus1 ∷  -- 114
+    op "LiftToTop" U8 same ∷  -- 115
+    op "RaiseUnboundLocal" U16 same ∷  -- 116
+    op "MethodDictMerge" U16 minus1 ∷  -- 117
+    op "Assert" U8 assert ∷  -- 118
+    op "AssertFailed" U8 assert-failed ∷  -- 119
     op "BuildCell" None plus1 ∷  -- 120
-    op "DeleteCell" U16 same ∷
-    op "LoadName" U16U16U8 plus1 ∷
-    op "StoreName" U16U16U8 minus1 ∷
-    op "DeleteName" U16U16U8 same ∷
-    op "MatchShape" U16U8 plus1 ∷
-    op "MatchKeys" U8 match-keys ∷
-    op "MatchClass" U8 plus1 ∷
-    op "MatchAttr" U8 plus2 ∷
-    op "SinkTop" U8 same ∷
+    op "DeleteCell" U16 same ∷  -- 121
+    op "LoadName" U16U16U8 plus1 ∷  -- 122
+    op "StoreName" U16U16U8 minus1 ∷  -- 123
+    op "DeleteName" U16U16U8 same ∷  -- 124
+    op "MatchShape" U16U8 plus1 ∷  -- 125
+    op "MatchKeys" U8 match-keys ∷  -- 126
+    op "MatchClass" U8 plus1 ∷  -- 127
+    op "MatchAttr" U8 plus2 ∷  -- 128
+    op "SinkTop" U8 same ∷  -- 129
     op "RaiseFrom" None minus2 ∷ []  -- 130
 
 -- document 01, "131 opcodes 0 to 130": the last one

@@ -31,6 +31,10 @@ shapeNumber S.U16U16U8 = 11
 abbrev pub shapeIn : Row → Shape
 shapeIn (op name shape rule) = shape
 
+-- the number of an opcode's shape; 12 where there is no such opcode
+unfoldable pub shapeNo : ℕ → ℕ
+shapeNo k = pick (known k) (shapeNumber (shapeIn (rowOf k))) 12
+
 -- op.rs, `operand_shape`: an opcode's shape, or 1
 unfoldable pub shapeOf : ℕ → Shaped
 shapeOf k = pick (known k) (Is (shapeIn (rowOf k))) (Refused UnknownOpcode)

@@ -1,7 +1,7 @@
 -- `code::signs::byte_of` meets its contract: below 0 the bits are flipped twice, else they are the number.
 -- Assumes nothing.
 use mathlib.Core.Path.{_≡_, refl}
-use Prim.Native.Nat.{ℕ, _-_}
+use Prim.Native.Nat.{_-_}
 use native.Mathlib.Omega.{arith}
 use lib.IntN.{pos}
 use mir.Syntax.{w8}

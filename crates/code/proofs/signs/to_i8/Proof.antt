@@ -1,7 +1,7 @@
 -- `code::signs::to_i8` meets its contract: the number is what the bits are read as, and `!` twice over leaves them.
 -- Assumes nothing.
 use mathlib.Core.Path.{_≡_, refl, sym, ap, _∙_}
-use Prim.Native.Nat.{ℕ, _-_}
+use Prim.Native.Nat.{_-_}
 use native.Mathlib.Omega.{arith}
 use borrow.Author.Needs.{needs}
 use mir.Syntax.{w8}

@@ -1,0 +1,21 @@
+-- `code::decoder::byte_or_zero` meets its contract: past the end the definition reads 0 too.
+-- Assumes nothing.
+use mathlib.Core.Path.{sym}
+use denote.Ref.{now}
+use lib.ListN.{List·getD-eq-default}
+use borrow.Author.Needs.{needs}
+use Rattle.code.proofs.decoder.byte_or_zero.Statement.{statement}
+use Rattle.code.proofs.decoder.byte_or_zero.Tie as tie
+
+shared-slice-read-result : tie.Need-shared-slice-read-result
+shared-slice-read-result c = search needs
+
+returns : tie.Need-returns
+returns c = search needs
+
+returns-2 : tie.Need-returns-2
+returns-2 c =
+    sym (List·getD-eq-default (now (c .before .args .bytes)) 0 {n = c .before .args .i} (c .if1 .left))
+
+pub byte-or-zero-spec : {M : Type 1} → statement M
+byte-or-zero-spec = tie.close (tie.spec shared-slice-read-result returns returns-2)

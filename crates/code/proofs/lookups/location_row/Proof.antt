@@ -1,0 +1,38 @@
+-- `code::lookups::location_row` meets its contract: a cell for each field.
+-- Assumes nothing.
+use borrow.Author.Needs.{needs}
+use Rattle.code.proofs.lookups.location_row.Statement.{statement}
+use Rattle.code.proofs.lookups.location_row.Tie as tie
+
+cell-of-requires : tie.Need-cell-of-requires
+cell-of-requires c κs = search needs
+
+cell-of-requires-2 : tie.Need-cell-of-requires-2
+cell-of-requires-2 c κs = search needs
+
+cell-of-requires-3 : tie.Need-cell-of-requires-3
+cell-of-requires-3 c κs = search needs
+
+cell-of-requires-4 : tie.Need-cell-of-requires-4
+cell-of-requires-4 c κs = search needs
+
+cell-of-requires-5 : tie.Need-cell-of-requires-5
+cell-of-requires-5 c κs = search needs
+
+cell-of-requires-6 : tie.Need-cell-of-requires-6
+cell-of-requires-6 c κs = search needs
+
+returns : tie.Need-returns
+returns c = cc
+
+pub location-row-spec : {M : Type 1} → statement M
+location-row-spec =
+    tie.close
+    (tie.spec
+    cell-of-requires
+    cell-of-requires-2
+    cell-of-requires-3
+    cell-of-requires-4
+    cell-of-requires-5
+    cell-of-requires-6
+    returns)

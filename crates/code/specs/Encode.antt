@@ -1,0 +1,73 @@
+-- The bytes of an instruction, and what its writer does: document 01, "Bytes and depths", refusals 1, 2, 7 and 18.
+-- Assumes nothing.
+use mathlib.Core.Path.{_≡_}
+use mathlib.Core.Bool.{Bool}
+use mathlib.Core.List.{List, [], _∷_, _++_}
+use Prim.Native.Nat.{ℕ, _≤_}
+use lib.Dec.{leb, eqb}
+use lib.ListN.{length}
+use Rattle.op.specs.Choice.{pick}
+use Rattle.op.specs.Shapes.{shapeNumber, shapeOf, operandShape, sizeOf}
+use Rattle.op.specs.declared.Operand.{Operand}
+use Rattle.op.specs.declared.Operand.the-variants as O
+use Rattle.op.specs.declared.Refusal.{Refusal}
+use Rattle.op.specs.declared.Refusal.the-variants.{UnknownOpcode, WrongShape, TooManyKeywords, Full}
+use Rattle.op.specs.declared.Shaped.{Shaped}
+use Rattle.op.specs.declared.Shaped.the-variants as P
+use Rattle.op.specs.declared.Table.the-variants.{Code}
+use Rattle.code.specs.declared.Written.{Written}
+use Rattle.code.specs.declared.Written.the-variants.{Size, Refused}
+use Rattle.code.specs.Bytes.{wordBytes, namesBytes, unsigned, front}
+use Rattle.code.specs.Decode.{namesIn}
+
+-- an operand's bytes in shape order, but for keyword names
+abbrev pub operandBytes : Operand → List ℕ
+operandBytes O.None = []
+operandBytes (O.U8 a) = a ∷ []
+operandBytes (O.I8 z) = unsigned 256 z ∷ []
+operandBytes (O.U16 a) = wordBytes a
+operandBytes (O.Offset z) = wordBytes (unsigned 65536 z)
+operandBytes (O.U8U8 a b) = a ∷ b ∷ []
+operandBytes (O.U16U8 a b) = wordBytes a ++ b ∷ []
+operandBytes (O.U16U16 a b) = wordBytes a ++ wordBytes b
+operandBytes (O.U16U8U8 a b c) = wordBytes a ++ b ∷ c ∷ []
+operandBytes (O.CallKw positional names) = positional ∷ names ∷ []
+operandBytes (O.CallAttrKw attribute positional names) = wordBytes attribute ++ positional ∷ names ∷ []
+operandBytes (O.U16U16U8 a b c) = wordBytes a ++ wordBytes b ++ c ∷ []
+
+-- "Operands follow the opcode", and keyword names stand last
+unfoldable pub encode : ℕ → Operand → List ℕ → List ℕ
+encode k o names = k ∷ operandBytes o ++ namesBytes names
+
+-- what is refused where a test fails
+abbrev pub unless : Bool → Refusal → Written → Written
+unless t r w = pick t w (Refused r)
+
+-- 7, then 2 for a shape that isn't the opcode's and for a count that isn't the names', then 18; n names, so many bytes of room
+abbrev pub writtenBy : Shaped → Operand → ℕ → ℕ → Written
+writtenBy (P.Refused r) o n room = Refused UnknownOpcode
+writtenBy (P.Is s) o n room =
+    unless (leb n 255) TooManyKeywords
+    (unless (eqb (shapeNumber s) (shapeNumber (operandShape o))) WrongShape
+    (unless (eqb (namesIn o) n) WrongShape
+    (unless (leb (sizeOf s n) room) (Full Code)
+    (Size (sizeOf s n)))))
+
+-- the writer's answer: 1 first
+unfoldable pub writtenOf : ℕ → Operand → ℕ → ℕ → Written
+writtenOf k o n room = writtenBy (shapeOf k) o n room
+
+-- the bytes at the front, or no change
+abbrev pub filled : Written → List ℕ → List ℕ → List ℕ
+filled (Size z) bytes out = front bytes out
+filled (Refused r) bytes out = out
+
+-- the writer's answer, and every cell that it was lent
+pub record Writes (k : ℕ) (o : Operand) (names out : List ℕ) (answer : Written) (out′ : List ℕ) : Type 0 where
+  pub answers : answer ≡ writtenOf k o (length names) (length out)
+  pub cells : out′ ≡ filled (writtenOf k o (length names) (length out)) (encode k o names) out
+
+-- what the bytes are written under: the operand counts the names, and there is room
+pub record Writable (o : Operand) (names out : List ℕ) : Type 0 where
+  pub count : namesIn o ≡ length names
+  pub fits : sizeOf (operandShape o) (length names) ≤ length out

@@ -1,0 +1,107 @@
+-- What the lookups over lent tables answer: document 01, "Lookups"; code.rs, `impl Code`.
+-- Assumes nothing.
+use Prim.Native.Nat.{ℕ, zero, suc, _-_}
+use mathlib.Core.Bool.{Bool, _&&_}
+use mathlib.Core.List.{List, [], _∷_}
+use lib.Dec.{leb, ltb, eqb}
+use lib.ListN.{length, getD}
+use Rattle.op.specs.Choice.{pick}
+use Rattle.code.specs.Rows.{rowCount, cell, first}
+use Rattle.code.specs.declared.Constant.{Constant}
+use Rattle.code.specs.declared.Constant.the-variants as C
+use Rattle.code.specs.declared.Handled.{Handled}
+use Rattle.code.specs.declared.Handled.the-variants as H
+use Rattle.code.specs.declared.HandlerRow.{HandlerRow}
+use Rattle.code.specs.declared.LocalName.{LocalName}
+use Rattle.code.specs.declared.LocalName.the-variants as N
+use Rattle.code.specs.declared.Located.{Located}
+use Rattle.code.specs.declared.Located.the-variants as L
+use Rattle.code.specs.declared.LocationRow.{LocationRow}
+
+-- "locations (u32, six a row: offset, range start, end, focus present 0/1, focus start, end"
+abbrev pub locationWidth : ℕ
+locationWidth = 6
+
+-- row i of the location table
+abbrev pub locationRow : List ℕ → ℕ → LocationRow
+locationRow cells i =
+    record {
+      offset = cell locationWidth cells i 0;
+      start = cell locationWidth cells i 1;
+      end = cell locationWidth cells i 2;
+      «focus_present» = cell locationWidth cells i 3;
+      «focus_start» = cell locationWidth cells i 4;
+      «focus_end» = cell locationWidth cells i 5;
+    }
+
+-- is the offset of row i greater?
+abbrev pub greater : List ℕ → ℕ → ℕ → Bool
+greater cells x i = ltb x (locationRow cells i .offset)
+
+-- "the first row whose offset is greater", or the number of rows "if none is"
+unfoldable pub firstGreater : List ℕ → ℕ → ℕ
+firstGreater cells x = first (greater cells x) (rowCount locationWidth cells)
+
+-- the row before row n; "none if there is no such row"
+abbrev pub rowBefore : List ℕ → ℕ → Located
+rowBefore cells zero = L.Absent
+rowBefore cells (suc i) = L.Row i (locationRow cells i)
+
+-- the greatest number of a u32
+abbrev pub largestU32 : ℕ
+largestU32 = 4294967295
+
+-- Location: "the row before the first row whose offset is greater, or the last row if none is"; none if "the offset exceeds u32"
+unfoldable pub locationOf : List ℕ → ℕ → Located
+locationOf cells x = pick (ltb largestU32 x) L.Absent (rowBefore cells (firstGreater cells x))
+
+-- "exceptions (u32, six a row: start, end, handler, depth, exception count, kind"
+abbrev pub handlerWidth : ℕ
+handlerWidth = 6
+
+-- row i of the exception table
+abbrev pub handlerRow : List ℕ → ℕ → HandlerRow
+handlerRow cells i =
+    record {
+      start = cell handlerWidth cells i 0;
+      end = cell handlerWidth cells i 1;
+      handler = cell handlerWidth cells i 2;
+      depth = cell handlerWidth cells i 3;
+      count = cell handlerWidth cells i 4;
+      kind = cell handlerWidth cells i 5;
+    }
+
+-- the cells of such a row
+abbrev pub handlerCells : HandlerRow → List ℕ
+handlerCells r = r .start ∷ r .end ∷ r .handler ∷ r .depth ∷ r .count ∷ r .kind ∷ []
+
+-- "start <= offset < end"
+unfoldable pub coversOf : ℕ → ℕ → ℕ → Bool
+coversOf start end x = leb start x && ltb x end
+
+-- does row i cover the offset?
+abbrev pub covering : List ℕ → ℕ → ℕ → Bool
+covering cells x i = coversOf (handlerRow cells i .start) (handlerRow cells i .end) x
+
+-- "the first row in insertion order with start <= offset < end", or the number of rows
+unfoldable pub firstCovering : List ℕ → ℕ → ℕ
+firstCovering cells x = first (covering cells x) (rowCount handlerWidth cells)
+
+-- Handler: that row
+unfoldable pub handlerOf : List ℕ → ℕ → Handled
+handlerOf cells x =
+    pick (ltb (firstCovering cells x) (rowCount handlerWidth cells))
+    (H.Row (firstCovering cells x) (handlerRow cells (firstCovering cells x)))
+    H.Absent
+
+-- "A constant index at or past the count answers Absent"
+unfoldable pub constantOf : List ℕ → ℕ → Constant
+constantOf cells i = pick (ltb i (length cells)) (C.Value (getD cells i 0)) C.Absent
+
+-- "names (u64: 0 absent, else number+1)"; a cell "over 4,294,967,296" is absent too
+abbrev pub nameIn : ℕ → LocalName
+nameIn c = pick (eqb c 0) N.Absent (pick (leb c 4294967296) (N.Name (c - 1)) N.Absent)
+
+-- "Local slots past the table, or whose cell is 0 or over 4,294,967,296, answer Absent"
+unfoldable pub localNameOf : List ℕ → ℕ → LocalName
+localNameOf cells slot = pick (ltb slot (length cells)) (nameIn (getD cells slot 0)) N.Absent

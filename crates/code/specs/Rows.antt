@@ -1,0 +1,24 @@
+-- Lent tables as rows of w cells: document 01, "Lent tables" ("six a row", "four a row") and "Lookups" ("a trailing part row is skipped").
+-- Assumes nothing.
+use Prim.Native.Nat.{ℕ, zero, suc, _+_, _*_, _/_}
+use mathlib.Core.Bool.{Bool}
+use mathlib.Core.List.{List}
+use lib.ListN.{length, getD, take, drop}
+use Rattle.op.specs.Choice.{pick}
+
+-- how many whole rows a table has: a trailing part row is skipped
+abbrev pub rowCount : ℕ → List ℕ → ℕ
+rowCount w cells = length cells / w
+
+-- cell k of row i
+abbrev pub cell : ℕ → List ℕ → ℕ → ℕ → ℕ
+cell w cells i k = getD cells (i * w + k) 0
+
+-- all cells of row i
+unfoldable pub row : ℕ → List ℕ → ℕ → List ℕ
+row w cells i = take w (drop (i * w) cells)
+
+-- the first of the rows 0 to n - 1 that passes a test, or n if none does
+unfoldable pub first : (ℕ → Bool) → ℕ → ℕ
+first test zero = zero
+first test (suc n) = pick (test zero) zero (suc (first (λ i. test (suc i)) n))
