@@ -7,6 +7,7 @@ pub mod Stores
 pub mod Writing
 pub mod Flows
 pub mod Examples
+pub mod Counting
 pub mod First
 pub mod Rows
 pub mod Rising

@@ -1,16 +1,15 @@
 -- Sizes and shapes of the operands that are read: an instruction is a fixed part, and two bytes for each keyword name.
 -- Assumes nothing.
-use mathlib.Core.Path.{_≡_, refl, ap}
+use mathlib.Core.Path.{_≡_, refl}
 use mathlib.Core.List.{List}
-use Prim.Native.Nat.{ℕ, _+_, _-_, _*_, _<_, _≤_}
+use Prim.Native.Nat.{ℕ, _+_, _-_, _*_, _<_}
 use native.Mathlib.Omega.{arith}
-use lib.ListN.{length}
 use Rattle.op.specs.Shapes.{operandShape, sizeOf}
 use Rattle.op.specs.declared.Operand.{Operand}
 use Rattle.op.specs.declared.Operand.the-variants as O
 use Rattle.op.specs.declared.Shape.{Shape}
 use Rattle.op.specs.declared.Shape.the-variants as S
-use Rattle.code.specs.Decode.{operandIn, namesIn, sizeIn}
+use Rattle.code.specs.Decode.{operandIn, namesIn}
 
 -- the operand that is read has the shape by which it is read
 pub shape-in : (s : Shape) (u : List ℕ) → operandShape (operandIn s u) ≡ s
@@ -59,13 +58,3 @@ fixed-part S.U16U8U8 = (omega arith, omega arith)
 fixed-part S.CallKw = (omega arith, omega arith)
 fixed-part S.CallAttrKw = (omega arith, omega arith)
 fixed-part S.U16U16U8 = (omega arith, omega arith)
-
-pub size-in : (s : Shape) (u : List ℕ) → sizeIn s u ≡ sizeOf s 0 + 2 * namesIn (operandIn s u)
-size-in s u =
-    let o = operandIn s u in
-    let e : sizeOf (operandShape o) (namesIn o) ≡ sizeOf (operandShape o) 0 + 2 * namesIn o = size-by-names o in
-    rw (shape-in s u) at e
-
--- where the whole instruction is there, so is its fixed part
-pub fixed-fits : (s s′ : Shape) (u : List ℕ) → sizeIn s u ≤ length u → s ≡ s′ → sizeOf s′ 0 ≤ length u
-fixed-fits s s′ u h e = omega (arith, size-in s u, ap (λ (x : Shape). sizeOf x 0) e)

@@ -1,7 +1,8 @@
 -- The instruction at the front of some bytes: document 01, "Bytes and depths", and its second module, the decoder.
 -- Assumes nothing.
+use mathlib.Core.Path.{_≡_}
 use mathlib.Core.List.{List, [], _∷_}
-use Prim.Native.Nat.{ℕ, _-_, _*_}
+use Prim.Native.Nat.{ℕ, _-_, _*_, _<_}
 use lib.Dec.{leb}
 use lib.ListN.{length, getD, take, drop}
 use Rattle.op.specs.Choice.{pick}
@@ -70,3 +71,8 @@ namesBy (Refused r) u = []
 -- "empty on a fault or without names"
 unfoldable pub namesAt : List ℕ → List ℕ
 namesAt u = namesBy (decode 0 u) u
+
+-- bytes that begin with an opcode of a shape
+pub record Front (s : Shape) (u : List ℕ) : Type 0 where
+  pub some : 0 < length u
+  pub shape : shapeOf (getD u 0 0) ≡ P.Is s

@@ -1,9 +1,8 @@
 // The decoder: what stands at an offset of the code. It reads forward from there and looks at nothing before it.
 ghost use mathlib.Core.Path.{_≡_};
 ghost use Prim.Native.Nat.{_+_, _<_, _≤_};
-ghost use lib.ListN.{length, drop, getD};
-ghost use Rattle.code.specs.Bytes.{wordAt};
-ghost use Rattle.code.specs.Decode.{sizeIn, operandIn, namesIn, decode, namesAt};
+ghost use lib.ListN.{length, drop};
+ghost use Rattle.code.specs.Decode.{namesIn, decode, namesAt};
 ghost use Rattle.code.specs.Flow.{goalBy, goalOf, changeOf, flowBy, flowOf};
 use crate::Change;
 use crate::Flow;
@@ -11,106 +10,24 @@ use crate::Flowing;
 use crate::Goal;
 use crate::Step;
 use crate::signs;
+use crate::steps;
 use op::Effect;
 use op::Operand;
 use op::Refusal;
-use op::Shape;
 use op::Shaped;
 use op::effects;
 use op::shapes;
-
-// A byte as a word.
-fn wide(b: u8) -> u16
-    ensures { λ r. ⌜ (r ≡ b) × (r < 256) ⌝ }
-{
-    b as u16
-}
-
-// The little-endian word at `i`.
-fn word_at(bytes: &[u8], i: usize) -> u16
-    requires { ⌜ i + 1 < length (now bytes) ⌝ }
-    ensures { λ r. ⌜ r ≡ wordAt (now (bytes .entry)) i ⌝ }
-{
-    let low = wide(bytes[i]);
-    let high = wide(bytes[i + 1]);
-    low + 256 * high
-}
-
-// The byte at `i`, or 0 past the end.
-fn byte_or_zero(bytes: &[u8], i: usize) -> u8
-    ensures { λ r. ⌜ r ≡ getD (now (bytes .entry)) i 0 ⌝ }
-{
-    if i < bytes.len() { bytes[i] } else { 0 }
-}
-
-// The count of keyword names in the bytes of an instruction, or 0 where it is cut off.
-fn names_count(bytes: &[u8], shape: Shape) -> u8
-    ensures { λ r. ⌜ r ≡ namesIn (operandIn shape (now (bytes .entry))) ⌝ }
-{
-    match shape {
-        Shape::None => 0,
-        Shape::U8 => 0,
-        Shape::I8 => 0,
-        Shape::U16 => 0,
-        Shape::Offset => 0,
-        Shape::U8U8 => 0,
-        Shape::U16U8 => 0,
-        Shape::U16U16 => 0,
-        Shape::U16U8U8 => 0,
-        Shape::CallKw => byte_or_zero(bytes, 2),
-        Shape::CallAttrKw => byte_or_zero(bytes, 4),
-        Shape::U16U16U8 => 0,
-    }
-}
-
-// The operand in the bytes of a whole instruction.
-fn operand_in(bytes: &[u8], shape: Shape) -> Operand
-    requires { ⌜ sizeIn shape (now bytes) ≤ length (now bytes) ⌝ }
-    ensures { λ r. ⌜ r ≡ operandIn shape (now (bytes .entry)) ⌝ }
-{
-    match shape {
-        Shape::None => Operand::None,
-        Shape::U8 => Operand::U8(bytes[1]),
-        Shape::I8 => Operand::I8(signs::to_i8(bytes[1])),
-        Shape::U16 => Operand::U16(word_at(bytes, 1)),
-        Shape::Offset => Operand::Offset(signs::to_i16(word_at(bytes, 1))),
-        Shape::U8U8 => Operand::U8U8(bytes[1], bytes[2]),
-        Shape::U16U8 => Operand::U16U8(word_at(bytes, 1), bytes[3]),
-        Shape::U16U16 => Operand::U16U16(word_at(bytes, 1), word_at(bytes, 3)),
-        Shape::U16U8U8 => Operand::U16U8U8(word_at(bytes, 1), bytes[3], bytes[4]),
-        Shape::CallKw => Operand::CallKw {
-            positional: bytes[1],
-            names: bytes[2],
-        },
-        Shape::CallAttrKw => Operand::CallAttrKw {
-            attribute: word_at(bytes, 1),
-            positional: bytes[3],
-            names: bytes[4],
-        },
-        Shape::U16U16U8 => Operand::U16U16U8(word_at(bytes, 1), word_at(bytes, 3), bytes[5]),
-    }
-}
 
 // The instruction at the front of `bytes`, which stand at `at`.
 fn first(bytes: &[u8], at: usize) -> Step
     requires { ⌜ 0 < length (now bytes) ⌝ }
     ensures { λ r. ⌜ r ≡ decode at (now (bytes .entry)) ⌝ }
 {
-    let opcode = bytes[0];
-    let shaped = shapes::operand_shape(opcode);
+    let shaped = shapes::operand_shape(bytes[0]);
     let Shaped::Is(shape) = shaped else {
         return Step::Refused(Refusal::UnknownOpcodeAt(at));
     };
-    let size = shapes::instruction_size(shape, names_count(bytes, shape));
-    if bytes.len() < size {
-        return Step::Refused(Refusal::CutShort(at));
-    }
-    let operand = operand_in(bytes, shape);
-    Step::Instr {
-        opcode,
-        operand,
-        size,
-    }
+    steps::shaped_step(bytes, at, shape)
 }
 
 // The instruction at an offset: End at or past the code's end; refuses 1, then 22.

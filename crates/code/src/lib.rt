@@ -6,7 +6,9 @@ use op::Refusal;
 pub mod decoder;
 pub mod entries;
 pub mod lookups;
+pub mod reading;
 pub mod signs;
+mod steps;
 mod store;
 pub mod writer;
 
@@ -55,6 +57,12 @@ pub enum Flowing {
     Op(Flow),
     End,
     Refused(Refusal),
+}
+
+// How many instructions a code has, all of it or up to its first fault, which is 1 or 22.
+pub enum Count {
+    Whole(usize),
+    Stopped(usize, Refusal),
 }
 
 // How many bytes were written, or why none was.

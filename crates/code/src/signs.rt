@@ -9,8 +9,7 @@ pub fn to_i8(b: u8) -> i8
     if b < 128 {
         return b as i8;
     }
-    let y = (255 - b) as i8;
-    !y
+    !((255 - b) as i8)
 }
 
 // The number whose two's complement is this word.
@@ -20,8 +19,7 @@ pub fn to_i16(w: u16) -> i16
     if w < 32768 {
         return w as i16;
     }
-    let y = (65535 - w) as i16;
-    !y
+    !((65535 - w) as i16)
 }
 
 // The byte that is a number's two's complement.

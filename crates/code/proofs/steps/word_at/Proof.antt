@@ -1,8 +1,8 @@
--- `code::decoder::word_at` meets its contract: arithmetic on two bytes.
+-- `code::steps::word_at` meets its contract: arithmetic on two bytes.
 -- Assumes nothing.
 use borrow.Author.Needs.{needs}
-use Rattle.code.proofs.decoder.word_at.Statement.{statement}
-use Rattle.code.proofs.decoder.word_at.Tie as tie
+use Rattle.code.proofs.steps.word_at.Statement.{statement}
+use Rattle.code.proofs.steps.word_at.Tie as tie
 
 shared-slice-read-wide : tie.Need-shared-slice-read-wide
 shared-slice-read-wide c = search needs
