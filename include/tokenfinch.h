@@ -35,7 +35,9 @@ enum {
     TF_NOT_A_JUMP = 3,       /* the opcode is no jump */
     TF_DEPTH_BELOW_ZERO = 4, /* the depth would fall below 0 */
     TF_DEPTH_TOO_LARGE = 5,  /* the depth would rise above 65,535, or a taken depth fall below 0 */
-    TF_FULL = 18             /* too little room where the answer is to be written */
+    TF_TOO_LARGE = 10,       /* the code is over 1,048,576 bytes */
+    TF_FULL = 18,            /* too little room where the answer is to be written */
+    TF_CUT_SHORT = 22        /* an instruction is cut short by the code's end */
 };
 
 /* The opcodes, in op.rs's numbers. */
@@ -130,6 +132,11 @@ tf_answer tf_instruction_size(uint8_t opcode, uint8_t names);
  * length (3 to 20). No byte 0 is written behind it. A refusal writes nothing. out may be null where room is 0.
  * Refuses: 1, 18. */
 tf_answer tf_opcode_name(uint8_t opcode, uint8_t *out, size_t room);
+
+/* How many instructions length bytes of code are, read one behind the other from the first byte to the last.
+ * Refuses: 10 for over 1,048,576 bytes; 1 and 22 where the reading stops at a byte that is no opcode, or at an
+ * instruction that is cut short. */
+tf_answer tf_count_instructions(const uint8_t *code, size_t length);
 
 /* The comparisons of Assert and AssertFailed, in op.rs's numbers. */
 enum {

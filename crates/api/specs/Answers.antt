@@ -16,11 +16,14 @@ use Rattle.op.specs.declared.Deadness.the-variants as D
 use Rattle.op.specs.declared.NetEffect.{NetEffect}
 use Rattle.op.specs.declared.NetEffect.the-variants as N
 use Rattle.op.specs.declared.Refusal.{Refusal}
-use Rattle.op.specs.declared.Refusal.the-variants.{UnknownOpcode, Full}
+use Rattle.op.specs.declared.Refusal.the-variants.{UnknownOpcode, Full, TooLarge}
 use Rattle.op.specs.declared.Shaped.{Shaped}
 use Rattle.op.specs.declared.Shaped.the-variants as S
 use Rattle.op.specs.declared.Table.the-variants.{Text}
 use Rattle.code.specs.Bytes.{unsigned, front}
+use Rattle.code.specs.Reading.{countOf}
+use Rattle.code.specs.declared.Count.{Count}
+use Rattle.code.specs.declared.Count.the-variants as C
 
 -- 2^32
 abbrev pub half : ℕ
@@ -64,3 +67,16 @@ nameAnswer k room =
 -- the cells that it is written to
 unfoldable pub nameCells : ℕ → List ℕ → List ℕ
 nameCells k out = pick (known k) (pick (leb (length (nameOf k)) (length out)) (front (nameOf k) out) out) out
+
+-- document 01's greatest code
+abbrev pub greatest : ℕ
+greatest = 1048576
+
+-- how many instructions a code has, or its first fault
+abbrev pub counted : Count → ℕ
+counted (C.Whole n) = n
+counted (C.Stopped n r) = refused r
+
+-- 10 first
+unfoldable pub countAnswer : List ℕ → ℕ
+countAnswer code = pick (leb (length code) greatest) (counted (countOf code)) (refused TooLarge)

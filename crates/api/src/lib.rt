@@ -6,8 +6,9 @@ ghost use Rattle.op.specs.Shapes.{shapeOf};
 ghost use Rattle.op.specs.Effects.{takenOf, netOf, deadnessOf};
 ghost use Rattle.op.specs.Depths.{takenDepthOf};
 ghost use Rattle.op.specs.Flags.{decodedFlags};
-ghost use Rattle.api.specs.Answers.{shapeAnswer, netAnswer, deadAnswer, depthAnswer, sizeAnswer, nameAnswer, nameCells};
+ghost use Rattle.api.specs.Answers.{shapeAnswer, netAnswer, deadAnswer, depthAnswer, sizeAnswer, nameAnswer, nameCells, countAnswer};
 ghost use Rattle.api.specs.Given.{givenOf, effectGiven, afterGiven, flagsGiven, flagsAnswer};
+use code::Count;
 use op::AssertFlags;
 use op::CmpOperator;
 use op::Compared;
@@ -140,5 +141,19 @@ pub extern "C" fn tf_decode_assert_flags(flags: u8) -> u8
     match decoded {
         AssertFlags::Valid(compared) => answers::of_compared(compared),
         AssertFlags::Invalid => 11,
+    }
+}
+
+#[no_mangle]
+pub extern "C" fn tf_count_instructions(code: &[u8]) -> u64
+    ensures { λ r. ⌜ r ≡ countAnswer (now (code .entry)) ⌝ }
+{
+    if 1048576 < code.len() {
+        return answers::refused(Refusal::TooLarge);
+    }
+    let counted = code::reading::count(code);
+    match counted {
+        Count::Whole(n) => n as u64,
+        Count::Stopped(_, refusal) => answers::refused(refusal),
     }
 }

@@ -1,0 +1,57 @@
+//! Times the proved library beside plain Rust written for the purpose. Both sides do the same work on the same
+//! bytes, turn by turn in one process; the ratio is that of the medians. Buffers are warm: each side has run once
+//! before it is timed.
+
+mod decode;
+mod rules;
+
+use std::{env, time::Instant};
+
+/// Two ways to do one piece of work, each answering a number that must agree.
+struct Pair<'a> {
+    what: &'a str,
+    proved: &'a dyn Fn() -> u64,
+    plain: &'a dyn Fn() -> u64,
+}
+
+fn seconds(work: &dyn Fn() -> u64) -> f64 {
+    let begun = Instant::now();
+    std::hint::black_box(work());
+    begun.elapsed().as_secs_f64()
+}
+
+fn median(times: &mut [f64]) -> f64 {
+    times.sort_by(f64::total_cmp);
+    times[times.len() / 2]
+}
+
+/// One line of the table: medians in milliseconds, their ratio, and the ratio of the best runs.
+fn measure(pair: &Pair<'_>, repetitions: usize) {
+    let (ours, theirs) = ((pair.proved)(), (pair.plain)());
+    assert_eq!(ours, theirs, "{}: the two sides disagree", pair.what);
+    let (mut proved, mut plain) = (Vec::new(), Vec::new());
+    for _ in 0..repetitions {
+        proved.push(seconds(pair.proved));
+        plain.push(seconds(pair.plain));
+    }
+    let (a, b) = (median(&mut proved), median(&mut plain));
+    println!(
+        "{:<44} {:>9.3} {:>9.3} {:>7.2} {:>7.2}",
+        pair.what,
+        a * 1e3,
+        b * 1e3,
+        a / b,
+        proved[0] / plain[0]
+    );
+}
+
+fn main() {
+    let repetitions = env::args().nth(1).map_or(51, |n| n.parse().expect("a number of repetitions"));
+    println!("{:<44} {:>9} {:>9} {:>7} {:>7}", "", "proved ms", "plain ms", "median", "best");
+    let random = decode::code(1 << 20, decode::Mix::Random);
+    let pattern = decode::code(1 << 20, decode::Mix::Pattern);
+    for (what, code) in [("count 1 MiB, random opcodes", &random), ("count 1 MiB, one pattern", &pattern)] {
+        let pair = Pair { what, proved: &|| decode::proved(code), plain: &|| decode::plain(code) };
+        measure(&pair, repetitions);
+    }
+}
