@@ -23,7 +23,7 @@ fn main() {
         ));
     };
     // By its path, so that an archive of any name can be tried.
-    println!("cargo::rustc-link-arg-bins={}", archive.display());
+    println!("cargo::rustc-link-arg={}", archive.display());
 }
 
 fn refuse(why: &str) -> ! {

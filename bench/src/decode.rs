@@ -43,14 +43,14 @@ pub fn code(most: usize, mix: Mix) -> Vec<u8> {
     bytes
 }
 
+/// The proved count.
 pub fn proved(code: &[u8]) -> u64 {
     // SAFETY: the function reads `length` bytes from `code` and nothing else.
     unsafe { tf_count_instructions(code.as_ptr(), code.len()) }
 }
 
 /// What a step hands out. Counting looks at no operand, on either side: each compiler may leave the reads out.
-#[allow(dead_code)]
-enum Operand {
+pub enum Operand {
     None,
     U8(u8),
     I8(i8),
@@ -65,7 +65,7 @@ enum Operand {
     U16U16U8(u16, u16, u8),
 }
 
-enum Step {
+pub enum Step {
     Instruction(u8, Operand, usize),
     End,
     Refused(u8),
@@ -100,7 +100,8 @@ fn operand(shape: u8, bytes: &[u8]) -> Option<(Operand, usize)> {
     })
 }
 
-fn step(code: &[u8], at: usize) -> Step {
+/// The instruction at an offset.
+pub fn step(code: &[u8], at: usize) -> Step {
     let Some(bytes) = code.get(at..).filter(|rest| !rest.is_empty()) else {
         return Step::End;
     };
@@ -113,6 +114,7 @@ fn step(code: &[u8], at: usize) -> Step {
     }
 }
 
+/// The same, in plain Rust.
 pub fn plain(code: &[u8]) -> u64 {
     let (mut at, mut count) = (0, 0);
     loop {

@@ -1,4 +1,4 @@
-//! The sizes of instructions, for the plain side: typed from the rules' document.
+//! Shapes and names of the opcodes, for the plain side.
 
 /// An opcode's operand shape, in op.rs's numbers, or none.
 pub fn shape(opcode: u8) -> Option<u8> {
@@ -18,3 +18,26 @@ pub fn shape(opcode: u8) -> Option<u8> {
         _ => return None,
     })
 }
+
+/// The opcodes' names, in the order of their numbers.
+pub const NAMES: [&str; 131] = [
+    "Pop", "Dup", "Rot2", "Rot3", "LoadConst", "LoadNone", "LoadTrue", "LoadFalse", "LoadSmallInt",
+    "LoadLocal0", "LoadLocal1", "LoadLocal2", "LoadLocal3", "LoadLocal", "LoadLocalW", "StoreLocal",
+    "StoreLocalW", "LoadGlobal", "StoreGlobal", "LoadCell", "StoreCell", "DeleteLocal", "LoadGlobalCallable",
+    "BinaryAdd", "BinarySub", "BinaryMul", "BinaryDiv", "BinaryFloorDiv", "BinaryMod", "BinaryPow",
+    "BinaryAnd", "BinaryOr", "BinaryXor", "BinaryLShift", "BinaryRShift", "BinaryMatMul", "CompareEq",
+    "CompareNe", "CompareLt", "CompareLe", "CompareGt", "CompareGe", "CompareIs", "CompareIsNot", "CompareIn",
+    "CompareNotIn", "UnaryNot", "UnaryNeg", "UnaryPos", "UnaryInvert", "InplaceAdd", "InplaceSub",
+    "InplaceMul", "InplaceDiv", "InplaceFloorDiv", "InplaceMod", "InplacePow", "InplaceAnd", "InplaceOr",
+    "InplaceXor", "InplaceLShift", "InplaceRShift", "BuildList", "BuildTuple", "BuildDict", "BuildSet",
+    "FormatValue", "BuildFString", "BuildSlice", "ListExtend", "ListToTuple", "DictMerge", "ListAppend",
+    "SetAdd", "DictSetItem", "BinarySubscr", "StoreSubscr", "LoadAttr", "LoadAttrImport", "StoreAttr",
+    "CallFunction", "CallBuiltinFunction", "CallBuiltinType", "CallFunctionKw", "CallAttr", "CallAttrKw",
+    "CallFunctionExtended", "CallAttrExtended", "Jump", "JumpIfTrue", "JumpIfFalse", "JumpIfTrueOrPop",
+    "JumpIfFalseOrPop", "GetIter", "ForIter", "MakeFunction", "MakeClosure", "Raise", "Reraise",
+    "ClearException", "CheckExcMatch", "ReturnValue", "Await", "UnpackSequence", "UnpackEx", "Nop",
+    "LoadModule", "LoadSubmodule", "Dup2", "DeleteGlobal", "DictUpdate", "SetExtend", "BeforeWith",
+    "WithExit", "WithExceptStart", "LiftToTop", "RaiseUnboundLocal", "MethodDictMerge", "Assert",
+    "AssertFailed", "BuildCell", "DeleteCell", "LoadName", "StoreName", "DeleteName", "MatchShape",
+    "MatchKeys", "MatchClass", "MatchAttr", "SinkTop", "RaiseFrom",
+];

@@ -2,9 +2,7 @@
 //! bytes, turn by turn in one process; the ratio is that of the medians. Buffers are warm: each side has run once
 //! before it is timed.
 
-mod decode;
-mod rules;
-
+use bench::{decode, listing, row};
 use std::{env, time::Instant};
 
 /// Two ways to do one piece of work, each answering a number that must agree.
@@ -20,12 +18,7 @@ fn seconds(work: &dyn Fn() -> u64) -> f64 {
     begun.elapsed().as_secs_f64()
 }
 
-fn median(times: &mut [f64]) -> f64 {
-    times.sort_by(f64::total_cmp);
-    times[times.len() / 2]
-}
-
-/// One line of the table: medians in milliseconds, their ratio, and the ratio of the best runs.
+/// One line of the table.
 fn measure(pair: &Pair<'_>, repetitions: usize) {
     let (ours, theirs) = ((pair.proved)(), (pair.plain)());
     assert_eq!(ours, theirs, "{}: the two sides disagree", pair.what);
@@ -34,15 +27,7 @@ fn measure(pair: &Pair<'_>, repetitions: usize) {
         proved.push(seconds(pair.proved));
         plain.push(seconds(pair.plain));
     }
-    let (a, b) = (median(&mut proved), median(&mut plain));
-    println!(
-        "{:<44} {:>9.3} {:>9.3} {:>7.2} {:>7.2}",
-        pair.what,
-        a * 1e3,
-        b * 1e3,
-        a / b,
-        proved[0] / plain[0]
-    );
+    row(pair.what, &mut proved, &mut plain);
 }
 
 fn main() {
@@ -54,4 +39,5 @@ fn main() {
         let pair = Pair { what, proved: &|| decode::proved(code), plain: &|| decode::plain(code) };
         measure(&pair, repetitions);
     }
+    listing::measure(&decode::code(1 << 16, decode::Mix::Random), repetitions);
 }

@@ -1,0 +1,134 @@
+-- Laws of the progress of a listing: a line more fills the buffer on, and leaves fewer turns.
+-- Assumes nothing.
+use mathlib.Core.Path.{_≡_, refl, sym, ap, _∙_}
+use mathlib.Core.Bool.{Bool, true, false, _&&_}
+use mathlib.Core.List.{List, [], _++_, append-nil, append-assoc}
+use Prim.Native.Nat.{ℕ, suc, _-_, _≤_, _<_}
+use native.Mathlib.Decide.{decLt}
+use native.Mathlib.Omega.{arith}
+use lib.Dec.{leb}
+use lib.ListN.{length, getD}
+use lib.Seq.{length-sets}
+use borrow.Author.Tests.{leb-true, leb-false}
+use Rattle.op.specs.Choice.{pick}
+use Rattle.op.specs.Names.{nameText, nameStarts}
+use Rattle.text.specs.Listing.{restOf, firstLine, header, faultLine, most}
+use Rattle.text.specs.Lines.{Lists}
+use Rattle.text.specs.declared.Lined.{Lined}
+use Rattle.text.specs.declared.Lined.the-variants as L
+use Rattle.text.proofs.Putting.{then}
+use Rattle.text.proofs.Saying.{says, refused-large}
+use Rattle.listing.specs.Progress.{passedBy, left, turns, Fills}
+use Rattle.listing.specs.declared.Progress.{Progress}
+
+-- what one line more does
+pub record Told (code : List ℕ) (at : ℕ) (old : List ℕ) (to : ℕ) (p : Progress) (out : List ℕ) : Type 0 where
+  pub fills : Fills code at old to p out
+  pub fewer : turns code p < suc (length code - at)
+
+module _ (code : List ℕ) (at : ℕ) (old : List ℕ) (to : ℕ) (bytes : (i : ℕ) → getD code i 0 < 256) (room : 2048 ≤ length old - to) where
+  nothing : (out : List ℕ) → out ≡ old → restOf code at ≡ [] → Told code at old to (record { at = at; to = to; more = false }) out
+  nothing out e r = record {
+    fills = record { text = []; puts = record { next-is = omega arith; out-is = e }; fits = omega arith; rest = r };
+    fewer = omega arith;
+  }
+
+  pub told : (answer : Lined) (out : List ℕ) → Lists nameText nameStarts code at old to answer out → Told code at old to (passedBy answer at to) out
+  told (L.Line to′ next) out l =
+      let g = says code at old to (L.Line to′ next) out l in
+      record {
+        fills = record { text = g .text; puts = g .puts; fits = omega (arith, g .puts .next-is, g .fits); rest = g .rest };
+        fewer = omega (arith, g .on, g .within);
+      }
+  told (L.Fault to′) out l =
+      let g = says code at old to (L.Fault to′) out l in
+      record {
+        fills = record { text = restOf code at; puts = g .0; fits = omega (arith, g .0 .next-is, g .1); rest = sym (append-nil (restOf code at)) };
+        fewer = omega arith;
+      }
+  told L.End out l = let g = says code at old to L.End out l in nothing out (g .0) (g .1)
+  told (L.Refused r) out l = nothing out (says code at old to (L.Refused r) out l) (refused-large code at old to r out bytes room l)
+
+-- what was filled, and filled on
+pub onward : (code : List ℕ) (at : ℕ) (old : List ℕ) (to : ℕ) (p q : Progress) (out out′ : List ℕ) → p .more ≡ true
+    → Fills code at old to p out → Fills code (p .at) out (p .to) q out′ → Fills code at old to q out′
+onward code at old to p q out out′ m f g = record {
+  text = f .text ++ g .text;
+  puts = then (f .puts) (g .puts);
+  fits = omega (arith, g .fits, ap length (f .puts .out-is), length-sets old to (f .text));
+  rest =
+      f .rest ∙ ap (λ (b : Bool). f .text ++ pick b (restOf code (p .at)) []) m ∙ ap (λ (l : List ℕ). f .text ++ l) (g .rest)
+      ∙ sym (append-assoc (f .text) (g .text) (left code q));
+}
+
+-- at first nothing is filled
+pub unfilled : (code : List ℕ) (at : ℕ) (old : List ℕ) (to : ℕ) → to ≤ length old → Fills code at old to (record { at = at; to = to; more = true }) old
+unfilled code at old to h = record { text = []; puts = record { next-is = omega arith; out-is = refl }; fits = h; rest = refl }
+
+-- the first line has room
+pub first-short : (n : ℕ) → length (firstLine n) ≤ 28
+unfolding firstLine header faultLine Rattle.text.specs.Decimal.decimal Rattle.text.specs.Decimal.upTo
+first-short n = by (leb n most)
+  where
+    by : (b : Bool) → length (pick b header (faultLine 0 Rattle.op.specs.declared.Refusal.the-variants.TooLarge)) ≤ 28
+    by true = omega arith
+    by false = omega arith
+
+-- the loop's state: what was filled, and that turns were used up where the place has moved
+pub record Reached (code : List ℕ) (at : ℕ) (old : List ℕ) (to : ℕ) (p : Progress) (out : List ℕ) : Type 0 where
+  pub fills : Fills code at old to p out
+  pub fewer : turns code p ≤ suc (length code - at)
+  pub still : turns code p ≡ suc (length code - at) → p .to ≡ to
+
+pub reached-length : {code old out : List ℕ} {at to : ℕ} {p : Progress} → Reached code at old to p out → length out ≡ length old
+reached-length {code} {old} {out} {at} {to} {p} r = ap length (r .fills .puts .out-is) ∙ length-sets old to (r .fills .text)
+
+pub reached-first : (code : List ℕ) (at : ℕ) (old : List ℕ) (to : ℕ) → to ≤ length old → Reached code at old to (record { at = at; to = to; more = true }) old
+reached-first code at old to h = record { fills = unfilled code at old to h; fewer = omega arith; still = λ e. refl }
+
+-- what the test says
+ready-true : (m : Bool) (n : ℕ) → pick m (leb 2048 n) false ≡ true → (m ≡ true) × (2048 ≤ n)
+ready-true true n e = (refl, leb-true 2048 n e)
+ready-true false n e = let y : _≡_ {A = ℕ} 0 1 = cc in let z : ⊥ = omega arith in absurd z
+
+pub turns-left : (code : List ℕ) (p : Progress) → p .more ≡ true → turns code p ≡ suc (length code - p .at)
+turns-left code p m = ap (λ (b : Bool). pick b (suc (length code - p .at)) 0) m
+
+-- a turn of the loop
+module _ {code old out out′ : List ℕ} {at to : ℕ} {p : Progress} (answer : Lined) (bytes : (i : ℕ) → getD code i 0 < 256) (r : Reached code at old to p out)
+    (ready : pick (p .more) (leb 2048 (length out - p .to)) false ≡ true) (l : Lists nameText nameStarts code (p .at) out (p .to) answer out′) where
+  is-ready : (p .more ≡ true) × (2048 ≤ length out - p .to)
+  is-ready = ready-true (p .more) (length out - p .to) ready
+
+  line : Told code (p .at) out (p .to) (passedBy answer (p .at) (p .to)) out′
+  line = told code (p .at) out (p .to) bytes (is-ready .1) answer out′ l
+
+  pub turns-fall : turns code (passedBy answer (p .at) (p .to)) < turns code p
+  turns-fall = omega (arith, line .fewer, turns-left code p (is-ready .0))
+
+  pub reached-on : Reached code at old to (passedBy answer (p .at) (p .to)) out′
+  reached-on =
+      let h = turns-fall in
+      record {
+        fills = onward code at old to p (passedBy answer (p .at) (p .to)) out out′ (is-ready .0) (r .fills) (line .fills);
+        fewer = omega (arith, h, r .fewer);
+        still = λ e. let z : ⊥ = omega (arith, h, r .fewer) in absurd z;
+      }
+
+-- its end: some turns were used up
+pub reached-end : (code : List ℕ) (at : ℕ) (old : List ℕ) (to : ℕ) (p : Progress) (out : List ℕ) → Reached code at old to p out
+    → pick (p .more) (leb 2048 (length out - p .to)) false ≡ false → 2048 ≤ length old - to → turns code p < suc (length code - at)
+reached-end code at old to p out r e h = by (decLt (turns code p) (suc (length code - at)))
+  where
+    stuck : (m : Bool) → p .more ≡ m → pick m (leb 2048 (length out - p .to)) false ≡ false → turns code p ≡ suc (length code - at) → ⊥
+    stuck true q e t = omega (arith, leb-false 2048 (length out - p .to) e, r .still t, reached-length r)
+    stuck false q e t = omega (arith, ap (λ (b : Bool). pick b (suc (length code - p .at)) 0) q)
+
+    by : Dec (turns code p < suc (length code - at)) → turns code p < suc (length code - at)
+    by (yes g) = g
+    by (no g) = let z : ⊥ = stuck (p .more) refl e (omega (arith, r .fewer)) in absurd z
+
+-- a closed output leaves no turns
+pub written : (code : List ℕ) (b : Bool) (p : Progress) (n : ℕ) → turns code p < suc n → turns code (record { at = p .at; to = 0; more = b && p .more }) < suc n
+written code true p n h = h
+written code false p n h = omega arith

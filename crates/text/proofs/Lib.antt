@@ -1,0 +1,16 @@
+pub mod Putting
+pub mod Decimals
+pub mod Signs
+pub mod Targets
+pub mod ReadBack
+pub mod Splitting
+pub mod Names
+pub mod Operands
+pub mod Bounds
+pub mod Lining
+pub mod Examples
+pub mod Whole
+pub mod Saying
+pub mod Opcodes
+pub mod RowsBack
+pub mod RowsOnly

@@ -1,0 +1,25 @@
+-- `text::put::signed` meets its contract: the sign and the magnitude say the number.
+-- Assumes nothing.
+use borrow.Author.Needs.{needs}
+use Rattle.text.proofs.Putting.{same-places}
+use Rattle.text.proofs.Signs.{sign-whole}
+use Rattle.text.proofs.put.signed.Statement.{statement}
+use Rattle.text.proofs.put.signed.Tie as tie
+
+magnitude-requires : tie.Need-magnitude-requires
+magnitude-requires c κs = search needs
+
+number-requires : tie.Need-number-requires
+number-requires c κs = search needs
+
+same-length : tie.Need-same-length
+same-length c = search needs
+
+returns : tie.Need-returns
+returns c =
+    let m = c .before .before .before .before in
+    let s = m .before .before in
+    same-places (sign-whole (s .args .z) (m .magnitude .result) (s .fits .z) (m .magnitude .ensures)) (c .before .before .number .ensures)
+
+pub signed-spec : {M : Type 1} → statement M
+signed-spec = tie.close (tie.spec magnitude-requires number-requires same-length returns)

@@ -1,0 +1,9 @@
+pub mod Put
+pub mod Decimal
+pub mod Number
+pub mod Parts
+pub mod Row
+pub mod Listing
+pub mod Lines
+pub mod Fields
+pub mod Reading
