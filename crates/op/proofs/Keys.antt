@@ -1,7 +1,7 @@
 -- What a `match` on a number knows in an arm, turned into a rule of that number by one test that antt computes.
 -- Assumes nothing.
 use mathlib.Core.Path.{_≡_, refl, _∙_, sym, subst, ap}
-use mathlib.Core.Bool.{Bool, true, false, not}
+use mathlib.Core.Bool.{Bool, true, false}
 use mathlib.Core.List.{List, [], _∷_}
 use mathlib.Core.Logic.{inl, inr}
 use Prim.Native.Nat.{ℕ, zero, suc, _+_, _-_, _≤_, _<_}
@@ -78,14 +78,6 @@ pub by-rest : (p : ℕ → Bool) (a m x : ℕ) (kss : List (List ℕ)) → Rest 
     → T (everyFrom (λ (k : ℕ). either (inAny kss k) (p k)) a m) → T (p x)
 by-rest p a m x kss r h l t =
     other (inAny kss x) (p x) (in-range (λ (k : ℕ). either (inAny kss k) (p k)) a m x h l t) (none kss x r)
-
-pub is-true : (b : Bool) → T b → b ≡ true
-is-true true t = refl
-is-true false t = absurd t
-
-pub is-false : (b : Bool) → T (not b) → b ≡ false
-is-false true t = absurd t
-is-false false t = refl
 
 -- the default of a `match` whose arms are the n single numbers from a on
 abbrev pub upTo : ℕ → ℕ → List (List ℕ)

@@ -1,5 +1,4 @@
 pub mod Keys
-pub mod Rows
 pub mod Signs
 pub mod Listed
 pub mod Rules
