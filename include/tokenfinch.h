@@ -1,4 +1,4 @@
-/* tokenfinch.h: the opcode rules, for C.
+/* tokenfinch.h: the opcode rules, the decoder, the instruction writer and the lookups, for C.
  *
  * The functions are proved: each one ends for every argument and answers what is said beside it,
  * and none of them trusts its caller. They keep no state and may be called from any thread.
@@ -35,6 +35,7 @@ enum {
     TF_NOT_A_JUMP = 3,       /* the opcode is no jump */
     TF_DEPTH_BELOW_ZERO = 4, /* the depth would fall below 0 */
     TF_DEPTH_TOO_LARGE = 5,  /* the depth would rise above 65,535, or a taken depth fall below 0 */
+    TF_TOO_MANY_NAMES = 7,   /* over 255 keyword names */
     TF_TOO_LARGE = 10,       /* the code is over 1,048,576 bytes */
     TF_FULL = 18,            /* too little room where the answer is to be written */
     TF_CUT_SHORT = 22        /* an instruction is cut short by the code's end */
@@ -152,6 +153,88 @@ uint8_t tf_assert_flags(uint8_t comparison);
 
 /* The comparison of a flags byte: 0 to 9, TF_COMPARE_NONE or TF_COMPARE_INVALID. Never refuses. */
 uint8_t tf_decode_assert_flags(uint8_t flags);
+
+/* ---- Reading and writing code
+ *
+ * Code is plain bytes: instructions one behind the other, the opcode first, then its operand's values in
+ * order, those of 16 bits with the low byte first. A keyword call ends with its names, 2 bytes each.
+ *
+ * Lent arrays come with their number of elements, and a pointer may be null where that is 0. A function
+ * writes only what is said, and only where it answers 1 (or a size); no other element ever changes.
+ */
+
+/* What tf_step writes, by its place in out. a, b, c and names are what tf_stack_effect takes, and a, b, c
+ * what tf_write takes. */
+enum {
+    TF_STEP_OPCODE = 0,
+    TF_STEP_SIZE = 1,  /* of the whole instruction, in bytes: the next one stands at at + size */
+    TF_STEP_SHAPE = 2, /* one of TF_SHAPE_... */
+    TF_STEP_A = 3,     /* the operand's values, as the table of shapes has them; 0 where it has none */
+    TF_STEP_B = 4,
+    TF_STEP_C = 5,
+    TF_STEP_NAMES = 6, /* the number of keyword names; 0 where the shape has none */
+    TF_STEP_NAMES_AT = 7, /* the offset in code of the names' bytes, two for each, the low byte first */
+    TF_STEP_CELLS = 8
+};
+
+/* Reads the instruction that stands at the offset at of the code, which has length bytes, and writes it to
+ * the front of out, which has room elements. Value 1, or 0 at the code's end and past it, where nothing is
+ * written. Any offset may be asked for; it is read as if an instruction began there.
+ * Refuses: 1 and 22, of the instruction at at; then 18 where out has fewer than TF_STEP_CELLS elements. A
+ * refusal writes nothing. A walk over the code:
+ *
+ *     uint64_t cell[TF_STEP_CELLS];
+ *     size_t at = 0;
+ *     tf_answer a;
+ *     while ((a = tf_step(code, length, at, cell, TF_STEP_CELLS)) == 1)
+ *         at += cell[TF_STEP_SIZE];
+ *     if (tf_refusal(a) != 0) ...                                      the code is damaged at at
+ */
+tf_answer tf_step(const uint8_t *code, size_t length, size_t at, uint64_t *out, size_t room);
+
+/* Writes one instruction to the front of out, which has room bytes, and answers its size. The operand is given
+ * as for tf_stack_effect; names are the numbers of the keyword names, and there are count of them (0 where the
+ * shape has none). What it writes, tf_step reads back.
+ * Refuses: 1; 7 over 255 names; 2 where shape is not the opcode's, is none, a value is too large for its field,
+ * or there are names and the shape has none; then 18. A refusal writes nothing. */
+tf_answer tf_write(uint8_t *out, size_t room, uint8_t opcode, uint8_t shape, uint16_t a, uint16_t b, uint8_t c,
+                   const uint16_t *names, size_t count);
+
+/* ---- Lookups in the tables of compiled code
+ *
+ * Rows have six numbers each. length counts numbers, not rows; a part of a row behind the last whole one is not
+ * looked at. Where a row is found the value is 1 and seven numbers are written to the front of out: the row's
+ * number, from 0, and its six numbers as they stand.
+ */
+enum {
+    TF_ROW_NUMBER = 0, /* which row */
+    /* a row of the location table */
+    TF_LOCATION_OFFSET = 1, TF_LOCATION_START = 2, TF_LOCATION_END = 3, TF_LOCATION_HAS_FOCUS = 4 /* 0 or 1 */,
+    TF_LOCATION_FOCUS_START = 5, TF_LOCATION_FOCUS_END = 6,
+    /* a row of the exception table */
+    TF_HANDLER_START = 1, TF_HANDLER_END = 2, TF_HANDLER_OFFSET = 3, TF_HANDLER_DEPTH = 4,
+    TF_HANDLER_COUNT = 5 /* exceptions at the region's entry */, TF_HANDLER_KIND = 6 /* 0 consuming, 1 cleanup */,
+    TF_ROW_CELLS = 7
+};
+
+/* The row of the location table that holds for an offset of the code: the one before the first row whose offset
+ * is greater, or the last row where none is. Value 0 where there is no such row, and for an offset above
+ * 4,294,967,295.
+ * Refuses: 18 where a row is found and out has fewer than TF_ROW_CELLS elements. */
+tf_answer tf_location_for_offset(const uint32_t *rows, size_t length, size_t offset, uint64_t *out, size_t room);
+
+/* The first row of the exception table, in their order, with start <= offset < end. Value 0 where there is none.
+ * Refuses: 18 where a row is found and out has fewer than TF_ROW_CELLS elements. */
+tf_answer tf_find_exception_handler(const uint32_t *rows, size_t length, uint32_t offset, uint64_t *out, size_t room);
+
+/* Writes the constant of that index to out[0]. Value 1, or 0 at and past the end of the constants.
+ * Refuses: 18 where there is one and room is 0. */
+tf_answer tf_constant(const uint64_t *constants, size_t length, size_t index, uint64_t *out, size_t room);
+
+/* Writes the number of a local slot's name to out[0]. A cell of names holds a name's number and 1, or 0 for none.
+ * Value 1, or 0 past the end of names and where the cell is 0 or above 4,294,967,296.
+ * Refuses: 18 where there is one and room is 0. */
+tf_answer tf_local_name(const uint64_t *names, size_t length, size_t slot, uint64_t *out, size_t room);
 
 #ifdef __cplusplus
 }

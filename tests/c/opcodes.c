@@ -1,32 +1,8 @@
 /* Calls each opcode rule from C and holds it to answers that are known from the rules' document.
  * Prints a line for each that fails, then the counts; exit status 1 where one failed. */
-#include "tokenfinch.h"
+#include "checks.h"
 
-#include <stdio.h>
 #include <string.h>
-
-enum { NO_OPCODE = TF_OP_LAST + 1 };
-
-static int checks, failed;
-
-static void report(const char *what, int right)
-{
-    checks++;
-    if (!right) {
-        failed++;
-        printf("c: FAILED: %s\n", what);
-    }
-}
-
-static void value(const char *what, tf_answer answer, int32_t expected)
-{
-    report(what, tf_refusal(answer) == 0 && tf_value(answer) == expected);
-}
-
-static void refusal(const char *what, tf_answer answer, uint32_t expected)
-{
-    report(what, tf_refusal(answer) == expected && tf_value(answer) == 0);
-}
 
 static void shapes(void)
 {
@@ -160,6 +136,5 @@ int main(void)
     sizes();
     names();
     flags();
-    printf("c: %d checks, %d failed\n", checks, failed);
-    return failed == 0 ? 0 : 1;
+    return verdict("opcodes");
 }

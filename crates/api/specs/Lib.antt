@@ -1,2 +1,5 @@
 pub mod Answers
 pub mod Given
+pub mod Told
+pub mod Steps
+pub mod Tables

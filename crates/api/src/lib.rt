@@ -1,14 +1,24 @@
-// What C and Rust call: the opcode rules on numbers and byte slices. include/tokenfinch.h declares these functions and says in words
-// what they promise here.
+// What C and Rust call: the opcode rules, the decoder's step, the instruction writer and the lookups, on numbers and slices of numbers.
+// include/tokenfinch.h declares these functions and says in words what they promise here.
 ghost use mathlib.Core.Path.{_≡_};
-ghost use lib.ListN.{length};
+ghost use lib.ListN.{length, drop};
 ghost use Rattle.op.specs.Shapes.{shapeOf};
 ghost use Rattle.op.specs.Effects.{takenOf, netOf, deadnessOf};
 ghost use Rattle.op.specs.Depths.{takenDepthOf};
 ghost use Rattle.op.specs.Flags.{decodedFlags};
+ghost use Rattle.code.specs.Decode.{decode};
+ghost use Rattle.code.specs.Lookups.{locationOf, handlerOf, constantOf, localNameOf};
 ghost use Rattle.api.specs.Answers.{shapeAnswer, netAnswer, deadAnswer, depthAnswer, sizeAnswer, nameAnswer, nameCells, countAnswer};
 ghost use Rattle.api.specs.Given.{givenOf, effectGiven, afterGiven, flagsGiven, flagsAnswer};
+ghost use Rattle.api.specs.Told.{Tells};
+ghost use Rattle.api.specs.Steps.{stepTold, WritesGiven};
+ghost use Rattle.api.specs.Tables.{locatedTold, handledTold, constantTold, nameTold};
+use code::Constant;
 use code::Count;
+use code::Handled;
+use code::LocalName;
+use code::Located;
+use code::Step;
 use op::AssertFlags;
 use op::CmpOperator;
 use op::Compared;
@@ -19,12 +29,22 @@ use op::Shaped;
 use op::Table;
 
 mod answers;
+mod cells;
 mod operands;
+mod steps;
+mod tables;
 
 // An operand given as numbers, or that there is none.
 pub enum Given {
     Is(Operand),
     Nothing,
+}
+
+// An operand's values in byte order, without the keyword count.
+pub struct Values {
+    pub a: u16,
+    pub b: u16,
+    pub c: u8,
 }
 
 #[no_mangle]
@@ -155,5 +175,88 @@ pub extern "C" fn tf_count_instructions(code: &[u8]) -> u64
     match counted {
         Count::Whole(n) => n as u64,
         Count::Stopped(_, refusal) => answers::refused(refusal),
+    }
+}
+
+#[no_mangle]
+pub extern "C" fn tf_step(code: &[u8], at: usize, out: &mut [u64]) -> u64
+    ensures { λ r. ⌜ Tells (stepTold at (decode at (drop at (now (code .entry))))) (now (out .entry)) r (now (out .exit)) ⌝ }
+{
+    let step = code::decoder::step_at(code, at);
+    match step {
+        Step::Instr {
+            opcode,
+            operand,
+            size,
+        } => steps::tell_instruction(at, opcode, operand, size, out),
+        Step::End => 0,
+        Step::Refused(refusal) => answers::refused(refusal),
+    }
+}
+
+#[no_mangle]
+pub extern "C" fn tf_write(
+    out: &mut [u8],
+    opcode: u8,
+    shape: u8,
+    a: u16,
+    b: u16,
+    c: u8,
+    names: &[u16],
+) -> u64
+    ensures { λ r. ⌜ WritesGiven opcode (givenOf shape a b c (length (now (names .entry)))) (now (names .entry)) (now (out .entry)) r (now (out .exit)) ⌝ }
+{
+    if 255 < names.len() {
+        return answers::refused(steps::no_write(opcode, names.len()));
+    }
+    steps::write(
+        out,
+        opcode,
+        operands::operand(shape, a, b, c, names.len() as u8),
+        names,
+    )
+}
+
+#[no_mangle]
+pub extern "C" fn tf_location_for_offset(rows: &[u32], offset: usize, out: &mut [u64]) -> u64
+    ensures { λ r. ⌜ Tells (locatedTold (locationOf (now (rows .entry)) offset)) (now (out .entry)) r (now (out .exit)) ⌝ }
+{
+    let located = code::lookups::location_for_offset(rows, offset);
+    match located {
+        Located::Row(number, row) => tables::tell_location(number, row, out),
+        Located::Absent => 0,
+    }
+}
+
+#[no_mangle]
+pub extern "C" fn tf_find_exception_handler(rows: &[u32], offset: u32, out: &mut [u64]) -> u64
+    ensures { λ r. ⌜ Tells (handledTold (handlerOf (now (rows .entry)) offset)) (now (out .entry)) r (now (out .exit)) ⌝ }
+{
+    let handled = code::lookups::find_exception_handler(rows, offset);
+    match handled {
+        Handled::Row(number, row) => tables::tell_handler(number, row, out),
+        Handled::Absent => 0,
+    }
+}
+
+#[no_mangle]
+pub extern "C" fn tf_constant(constants: &[u64], index: usize, out: &mut [u64]) -> u64
+    ensures { λ r. ⌜ Tells (constantTold (constantOf (now (constants .entry)) index)) (now (out .entry)) r (now (out .exit)) ⌝ }
+{
+    let constant = code::lookups::constant(constants, index);
+    match constant {
+        Constant::Value(value) => cells::tell(&[value], out),
+        Constant::Absent => 0,
+    }
+}
+
+#[no_mangle]
+pub extern "C" fn tf_local_name(names: &[u64], slot: usize, out: &mut [u64]) -> u64
+    ensures { λ r. ⌜ Tells (nameTold (localNameOf (now (names .entry)) slot)) (now (out .entry)) r (now (out .exit)) ⌝ }
+{
+    let name = code::lookups::local_name(names, slot);
+    match name {
+        LocalName::Name(number) => cells::tell(&[number as u64], out),
+        LocalName::Absent => 0,
     }
 }

@@ -1,5 +1,6 @@
 //! Holds the proved library against the original Rust: each area of rules is called with the same
-//! arguments on both sides, and every answer must be the same.
+//! arguments on both sides, and every answer must be the same. What the Rust does not have, as a decoder, is held
+//! against a reference that was written for this from the rules' text.
 //!
 //! Usage: compare [--quick] [--seed NUMBER]
 
@@ -8,6 +9,7 @@ mod operand;
 mod original;
 mod proved;
 mod random;
+mod reference;
 mod tally;
 
 use std::{env, process::ExitCode, time::Instant};
@@ -77,7 +79,7 @@ fn run_areas(mut plan: Plan) -> bool {
         comparisons += tally.comparisons();
         differences += tally.differences();
         if tally.is_empty() {
-            println!("compare: {name} compared nothing with the Rust");
+            println!("compare: {name} compared nothing");
             empty += 1;
         }
     }

@@ -47,11 +47,15 @@ pub fn widths(shape: u8) -> [Width; 4] {
     }
 }
 
-/// The Rust's operand; none where the number is no shape's or a field is too wide.
+/// The Rust's operand; none where the number is no shape's or a field is too wide. Its keyword names are all 0.
 pub fn operand(shape: u8, fields: Fields) -> Option<Operand<'static>> {
     static NAMES: [u16; 255] = [0; 255];
-    let Fields { a, b, c, names } = fields;
-    let kwname_ids = &NAMES[..usize::from(names)];
+    operand_naming(shape, fields, &NAMES[..usize::from(fields.names)])
+}
+
+/// The same with these keyword names.
+pub fn operand_naming(shape: u8, fields: Fields, kwname_ids: &[u16]) -> Option<Operand<'_>> {
+    let Fields { a, b, c, .. } = fields;
     let byte = |field: u16| u8::try_from(field).ok();
     Some(match shape {
         0 => Operand::None,
@@ -84,6 +88,22 @@ fn relative_offset(displacement: i16) -> RelativeOffset {
     let offset = unsafe { std::mem::transmute::<i16, RelativeOffset>(displacement) };
     assert_eq!(offset.as_i16(), displacement, "RelativeOffset is no longer one i16");
     offset
+}
+
+/// Whether a shape has keyword names.
+pub fn has_names(shape: u8) -> bool {
+    widths(shape)[3] != Width::Unused
+}
+
+/// The operand's values as tf_step gives them: 0 where the shape has none.
+pub fn used_values(shape: u8, fields: Fields) -> [u64; 3] {
+    let [a, b, c, _] = widths(shape);
+    let used = |width, value| if width == Width::Unused { 0 } else { value };
+    [
+        used(a, fields.a.into()),
+        used(b, fields.b.into()),
+        used(c, fields.c.into()),
+    ]
 }
 
 /// Random values, within each field's width; a field that the shape does not use may hold anything.

@@ -17,6 +17,41 @@ mod c {
         pub safe fn tf_decode_assert_flags(flags: u8) -> u8;
         /// `out` has `room` bytes that can be written; it may be null where `room` is 0.
         pub unsafe fn tf_opcode_name(opcode: u8, out: *mut u8, room: usize) -> u64;
+        // Below, each pointer has as many elements behind it as the number after it says.
+        pub unsafe fn tf_step(code: *const u8, length: usize, at: usize, out: *mut u64, room: usize) -> u64;
+        pub unsafe fn tf_write(
+            out: *mut u8,
+            room: usize,
+            opcode: u8,
+            shape: u8,
+            a: u16,
+            b: u16,
+            c: u8,
+            names: *const u16,
+            count: usize,
+        ) -> u64;
+        pub unsafe fn tf_location_for_offset(
+            rows: *const u32,
+            length: usize,
+            offset: usize,
+            out: *mut u64,
+            room: usize,
+        ) -> u64;
+        pub unsafe fn tf_find_exception_handler(
+            rows: *const u32,
+            length: usize,
+            offset: u32,
+            out: *mut u64,
+            room: usize,
+        ) -> u64;
+        pub unsafe fn tf_constant(
+            constants: *const u64,
+            length: usize,
+            index: usize,
+            out: *mut u64,
+            room: usize,
+        ) -> u64;
+        pub unsafe fn tf_local_name(names: *const u64, length: usize, slot: usize, out: *mut u64, room: usize) -> u64;
     }
 }
 
@@ -91,4 +126,48 @@ pub fn assert_flags(comparison: u8) -> u8 {
 
 pub fn decode_assert_flags(flags: u8) -> u8 {
     c::tf_decode_assert_flags(flags)
+}
+
+pub fn step(code: &[u8], at: usize, out: &mut [u64]) -> Answer {
+    // SAFETY: both slices are as long as is said.
+    Answer(unsafe { c::tf_step(code.as_ptr(), code.len(), at, out.as_mut_ptr(), out.len()) })
+}
+
+/// The fields' own count of names is not looked at: the names are given.
+pub fn write(out: &mut [u8], opcode: u8, shape: u8, fields: Fields, names: &[u16]) -> Answer {
+    let Fields { a, b, c, .. } = fields;
+    // SAFETY: both slices are as long as is said.
+    Answer(unsafe {
+        c::tf_write(
+            out.as_mut_ptr(),
+            out.len(),
+            opcode,
+            shape,
+            a,
+            b,
+            c,
+            names.as_ptr(),
+            names.len(),
+        )
+    })
+}
+
+pub fn location_for_offset(rows: &[u32], offset: usize, out: &mut [u64]) -> Answer {
+    // SAFETY: both slices are as long as is said.
+    Answer(unsafe { c::tf_location_for_offset(rows.as_ptr(), rows.len(), offset, out.as_mut_ptr(), out.len()) })
+}
+
+pub fn find_exception_handler(rows: &[u32], offset: u32, out: &mut [u64]) -> Answer {
+    // SAFETY: both slices are as long as is said.
+    Answer(unsafe { c::tf_find_exception_handler(rows.as_ptr(), rows.len(), offset, out.as_mut_ptr(), out.len()) })
+}
+
+pub fn constant(constants: &[u64], index: usize, out: &mut [u64]) -> Answer {
+    // SAFETY: both slices are as long as is said.
+    Answer(unsafe { c::tf_constant(constants.as_ptr(), constants.len(), index, out.as_mut_ptr(), out.len()) })
+}
+
+pub fn local_name(names: &[u64], slot: usize, out: &mut [u64]) -> Answer {
+    // SAFETY: both slices are as long as is said.
+    Answer(unsafe { c::tf_local_name(names.as_ptr(), names.len(), slot, out.as_mut_ptr(), out.len()) })
 }

@@ -12,6 +12,8 @@ pub enum By {
     Rust,
     /// The Rust can't be given this, as a value too wide for its type: the header says so.
     Header,
+    /// The Rust has no such function: `reference`, written for the comparison from the rules' text, says so.
+    Text,
 }
 
 #[derive(Clone, Copy)]
@@ -28,12 +30,17 @@ impl<T> Expected<T> {
     pub fn by_header(answer: T) -> Self {
         Self { answer, by: By::Header }
     }
+
+    pub fn by_text(answer: T) -> Self {
+        Self { answer, by: By::Text }
+    }
 }
 
 pub struct Tally {
     area: &'static str,
     with_rust: u64,
     with_header: u64,
+    with_text: u64,
     differences: u64,
 }
 
@@ -43,6 +50,7 @@ impl Tally {
             area,
             with_rust: 0,
             with_header: 0,
+            with_text: 0,
             differences: 0,
         }
     }
@@ -52,6 +60,7 @@ impl Tally {
         match expected.by {
             By::Rust => self.with_rust += 1,
             By::Header => self.with_header += 1,
+            By::Text => self.with_text += 1,
         }
         if proved != expected.answer {
             self.differ(&proved, &expected, &case());
@@ -65,6 +74,7 @@ impl Tally {
             let by = match expected.by {
                 By::Rust => "the Rust",
                 By::Header => "the header",
+                By::Text => "the reference",
             };
             println!(
                 "compare: DIFFERENCE in {}: {case}: {by} says {:?}, the library {proved:?}",
@@ -76,16 +86,16 @@ impl Tally {
     }
 
     pub fn comparisons(&self) -> u64 {
-        self.with_rust + self.with_header
+        self.with_rust + self.with_header + self.with_text
     }
 
     pub fn differences(&self) -> u64 {
         self.differences
     }
 
-    /// Whether the Rust was asked nothing.
+    /// Whether neither the Rust nor the reference was asked anything.
     pub fn is_empty(&self) -> bool {
-        self.with_rust == 0
+        self.with_rust + self.with_text == 0
     }
 }
 
@@ -93,8 +103,8 @@ impl fmt::Display for Tally {
     fn fmt(&self, f: &mut fmt::Formatter<'_>) -> fmt::Result {
         write!(
             f,
-            "compare: {:<12} {:>9} with the Rust, {:>8} with the header alone, {} differences",
-            self.area, self.with_rust, self.with_header, self.differences
+            "compare: {:<12} {:>9} with the Rust, {:>8} with the reference, {:>8} with the header alone, {} differences",
+            self.area, self.with_rust, self.with_text, self.with_header, self.differences
         )
     }
 }

@@ -2,20 +2,27 @@
 //! `proved`, and hands both answers to its tally.
 
 mod assert_flags;
+mod damaged;
 mod dead;
+mod decode;
 mod depth_after;
 mod depth_taken;
 mod effect;
+mod header;
+mod instructions;
+mod listing;
+mod lookups;
 mod name;
 mod shape;
 mod size;
 mod taken;
+mod write;
 
 use crate::{Plan, original, tally::Tally};
 
 type Area = fn(&mut Tally, &mut Plan);
 
-pub const ALL: [(&str, Area); 9] = [
+pub const ALL: [(&str, Area); 15] = [
     ("shape", shape::run),
     ("effect", effect::run),
     ("taken", taken::run),
@@ -25,6 +32,12 @@ pub const ALL: [(&str, Area); 9] = [
     ("size", size::run),
     ("name", name::run),
     ("assert flags", assert_flags::run),
+    ("decode", decode::run),
+    ("write", write::run),
+    ("damaged", damaged::run),
+    ("lookups", lookups::run),
+    ("header", header::run),
+    ("listing", listing::run),
 ];
 
 /// An opcode for a printed case: its number, and its name where it has one.

@@ -17,22 +17,22 @@ use crate::{
 };
 
 /// Deep enough for every instruction whose counts are small.
-const DEEP: u16 = 2000;
+pub(super) const DEEP: u16 = 2000;
 
 /// A builder whose first region opens at `depth`.
-fn live_at(depth: u16) -> CodeBuilder {
+pub(super) fn live_at(depth: u16) -> CodeBuilder {
     let mut builder = CodeBuilder::new();
     builder.new_code_region(depth);
     builder
 }
 
-fn code_size(builder: &CodeBuilder) -> u32 {
+pub(super) fn code_size(builder: &CodeBuilder) -> u32 {
     builder.current_offset().as_u32().expect("the code is short")
 }
 
 /// Emits by the public call for the operand's shape; none where that call has an opcode of its own, or, for a
 /// displacement, takes jumps only.
-fn emit(builder: &mut CodeBuilder, op: Opcode, operand: Operand<'_>) -> Option<Result<(), CompileError>> {
+pub(super) fn emit(builder: &mut CodeBuilder, op: Opcode, operand: Operand<'_>) -> Option<Result<(), CompileError>> {
     Some(match operand {
         Operand::None => builder.emit(op),
         Operand::U8(a) => builder.emit_u8(op, a),

@@ -2,6 +2,7 @@
 //! own message says which refusal stands for it; a panic or an error of any other kind ends the run.
 
 mod builder;
+mod emission;
 mod rules;
 
 use std::{
@@ -12,6 +13,7 @@ use std::{
 use monty::bytecode::compiler::CompileError;
 
 pub use builder::{depth_after, depth_by_mismatch, depth_taken, makes_dead, size};
+pub use emission::{emitted, jump, names_refused};
 pub use rules::{effect, opcode, shape, taken_effect};
 
 thread_local! {
@@ -59,6 +61,7 @@ fn refusal_of_panic(message: &str) -> u32 {
 fn refusal_of_error(error: &CompileError) -> u32 {
     match error.message() {
         "function too large: required stack exceeds u16::MAX" => 5,
+        "call has too many keyword arguments; maximum is 255 per call" => 7,
         other => panic!("the Rust gave an error that no refusal stands for: {other}"),
     }
 }

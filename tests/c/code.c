@@ -1,0 +1,232 @@
+/* Reads, writes and looks up from C what is known from the rules' document: its nine bytes, a keyword call,
+ * damaged code, too little room, its example of two handlers. Prints a line for each check that fails, then the
+ * counts; exit status 1 where one failed. */
+#include "checks.h"
+
+#include <string.h>
+
+enum { UNTOUCHED = 0x5A5A, CELLS = 12 };
+
+/* Lent cells, filled before each call so that a changed one is seen. */
+static uint64_t cell[CELLS];
+
+static uint64_t *fresh(void)
+{
+    for (int i = 0; i < CELLS; i++)
+        cell[i] = UNTOUCHED;
+    return cell;
+}
+
+/* Whether the cells from first on are as they were. */
+static int untouched(int first)
+{
+    for (int i = first; i < CELLS; i++)
+        if (cell[i] != UNTOUCHED)
+            return 0;
+    return 1;
+}
+
+/* A call that writes nothing. */
+static void nothing(const char *what, tf_answer answer)
+{
+    value(what, answer, 0);
+    report(what, untouched(0));
+}
+
+static void refused(const char *what, tf_answer answer, uint32_t expected)
+{
+    refusal(what, answer, expected);
+    report(what, untouched(0));
+}
+
+/* A call that writes so many numbers to the front, and no other cell. */
+static void wrote(const char *what, tf_answer answer, const uint64_t *expected, int count)
+{
+    value(what, answer, 1);
+    report(what, memcmp(cell, expected, (size_t)count * sizeof expected[0]) == 0);
+    report(what, untouched(count));
+}
+
+/* One instruction of a code, and that one cell less is too little. */
+static void step(const char *what, const uint8_t *code, size_t length, size_t at, const uint64_t expected[TF_STEP_CELLS])
+{
+    wrote(what, tf_step(code, length, at, fresh(), CELLS), expected, TF_STEP_CELLS);
+    wrote(what, tf_step(code, length, at, fresh(), TF_STEP_CELLS), expected, TF_STEP_CELLS);
+    refused(what, tf_step(code, length, at, fresh(), TF_STEP_CELLS - 1), TF_FULL);
+}
+
+/* The document's nine bytes. */
+static const uint8_t nine[] = {0x06, 0x5A, 0x03, 0x00, 0x08, 0x07, 0x00, 0x05, 0x65};
+
+static void nine_bytes(void)
+{
+    static const uint64_t steps[][TF_STEP_CELLS] = {
+        {TF_OP_LOAD_TRUE, 1, TF_SHAPE_NONE, 0, 0, 0, 0, 1},
+        {TF_OP_JUMP_IF_FALSE, 3, TF_SHAPE_OFFSET, 3, 0, 0, 0, 4},
+        {TF_OP_LOAD_SMALL_INT, 2, TF_SHAPE_I8, 7, 0, 0, 0, 6},
+        {TF_OP_POP, 1, TF_SHAPE_NONE, 0, 0, 0, 0, 7},
+        {TF_OP_LOAD_NONE, 1, TF_SHAPE_NONE, 0, 0, 0, 0, 8},
+        {TF_OP_RETURN_VALUE, 1, TF_SHAPE_NONE, 0, 0, 0, 0, 9},
+    };
+    size_t at = 0;
+    for (size_t i = 0; i < sizeof steps / sizeof steps[0]; i++) {
+        step("the nine bytes", nine, sizeof nine, at, steps[i]);
+        at += steps[i][TF_STEP_SIZE];
+    }
+    report("six instructions fill the nine bytes", at == sizeof nine);
+    nothing("their end", tf_step(nine, sizeof nine, at, fresh(), CELLS));
+    nothing("past it", tf_step(nine, sizeof nine, SIZE_MAX, fresh(), CELLS));
+    nothing("no room is wanted at the end", tf_step(nine, sizeof nine, at, NULL, 0));
+    nothing("no code at all", tf_step(NULL, 0, 0, fresh(), CELLS));
+}
+
+static void operands(void)
+{
+    static const uint8_t code[] = {
+        TF_OP_LOAD_SMALL_INT, 0xFF,                          /* 0: -1 */
+        TF_OP_JUMP, 0xFB, 0xFF,                              /* 2: -5, back to 0 */
+        TF_OP_LOAD_NAME, 0x34, 0x12, 0x78, 0x56, 0x9A,       /* 5: all three values */
+        TF_OP_CALL_ATTR_KW, 9, 1, 2, 1, 0xCD, 0xAB,          /* 11: attribute 265, 2 positional, a name */
+    };
+    static const uint64_t small[] = {TF_OP_LOAD_SMALL_INT, 2, TF_SHAPE_I8, 255, 0, 0, 0, 2};
+    static const uint64_t jump[] = {TF_OP_JUMP, 3, TF_SHAPE_OFFSET, 65531, 0, 0, 0, 5};
+    static const uint64_t name[] = {TF_OP_LOAD_NAME, 6, TF_SHAPE_U16U16U8, 0x1234, 0x5678, 0x9A, 0, 11};
+    static const uint64_t call[] = {TF_OP_CALL_ATTR_KW, 7, TF_SHAPE_CALL_ATTR_KW, 265, 2, 0, 1, 16};
+    step("a signed byte by its bits", code, sizeof code, 0, small);
+    step("a displacement by its bits", code, sizeof code, 2, jump);
+    step("two words and a byte", code, sizeof code, 5, name);
+    step("an attribute's keyword call", code, sizeof code, 11, call);
+    report("its name", code[16] == 0xCD && code[17] == 0xAB);
+}
+
+static void keyword_call(void)
+{
+    static const uint8_t code[] = {TF_OP_NOP, TF_OP_CALL_FUNCTION_KW, 3, 2, 0x01, 0x00, 0x02, 0x01, TF_OP_POP};
+    static const uint64_t expected[] = {TF_OP_CALL_FUNCTION_KW, 7, TF_SHAPE_CALL_KW, 3, 0, 0, 2, 4};
+    step("a keyword call", code, sizeof code, 1, expected);
+    size_t names_at = (size_t)expected[TF_STEP_NAMES_AT];
+    report("its first name", code[names_at] + 256 * code[names_at + 1] == 1);
+    report("its second name", code[names_at + 2] + 256 * code[names_at + 3] == 258);
+    value("its cells are what tf_stack_effect takes",
+          tf_stack_effect((uint8_t)expected[TF_STEP_OPCODE], (uint8_t)expected[TF_STEP_SHAPE], (uint16_t)expected[TF_STEP_A],
+                          (uint16_t)expected[TF_STEP_B], (uint8_t)expected[TF_STEP_C], (uint8_t)expected[TF_STEP_NAMES]),
+          -5);
+    for (size_t length = 2; length < 8; length++)
+        refused("a keyword call cut short", tf_step(code, length, 1, fresh(), CELLS), TF_CUT_SHORT);
+}
+
+static void damaged(void)
+{
+    static const uint8_t unknown[] = {TF_OP_POP, NO_OPCODE, 255};
+    refused("131 in the code", tf_step(unknown, sizeof unknown, 1, fresh(), CELLS), TF_UNKNOWN_OPCODE);
+    refused("255 in the code", tf_step(unknown, sizeof unknown, 2, fresh(), CELLS), TF_UNKNOWN_OPCODE);
+    refused("the nine bytes cut within the jump", tf_step(nine, 3, 1, fresh(), CELLS), TF_CUT_SHORT);
+    refused("1 comes before 18", tf_step(unknown, sizeof unknown, 1, NULL, 0), TF_UNKNOWN_OPCODE);
+    refused("22 comes before 18", tf_step(nine, 3, 1, NULL, 0), TF_CUT_SHORT);
+    refused("no room", tf_step(nine, sizeof nine, 0, NULL, 0), TF_FULL);
+}
+
+/* Whether so many bytes are written to the front of a buffer, all else in which stays as it was. */
+static void written(const char *what, uint8_t opcode, uint8_t shape, uint16_t a, uint16_t b, uint8_t c, const uint16_t *names,
+                    size_t count, const uint8_t *expected, size_t size)
+{
+    uint8_t out[600], wanted[600];
+    memset(out, '#', sizeof out);
+    memset(wanted, '#', sizeof wanted);
+    refusal(what, tf_write(out, size - 1, opcode, shape, a, b, c, names, count), TF_FULL);
+    report(what, memcmp(out, wanted, sizeof wanted) == 0);
+    memcpy(wanted, expected, size);
+    value(what, tf_write(out, size, opcode, shape, a, b, c, names, count), (int32_t)size);
+    report(what, memcmp(out, wanted, sizeof wanted) == 0);
+    /* and back */
+    value(what, tf_step(out, sizeof out, 0, fresh(), CELLS), 1);
+    report(what, cell[TF_STEP_OPCODE] == opcode && cell[TF_STEP_SIZE] == size && cell[TF_STEP_SHAPE] == shape);
+    report(what, cell[TF_STEP_A] == a && cell[TF_STEP_B] == b && cell[TF_STEP_C] == c);
+    report(what, cell[TF_STEP_NAMES] == count && cell[TF_STEP_NAMES_AT] == size - 2 * count);
+}
+
+static void writing(void)
+{
+    static const uint8_t pop[] = {0}, local[] = {0x0D, 0x04}, wide[] = {0x0E, 0x00, 0x01}, jump[] = {0x58, 0xFD, 0xFF};
+    static const uint8_t call[] = {0x53, 0x03, 0x02, 0x01, 0x00, 0x02, 0x01};
+    static const uint16_t names[300] = {1, 258};
+    uint8_t many[513] = {0x53, 0x00, 0xFF, 0x01, 0x00, 0x02, 0x01}, out[600];
+    written("Pop", TF_OP_POP, TF_SHAPE_NONE, 0, 0, 0, NULL, 0, pop, sizeof pop);
+    written("LoadLocal 4", TF_OP_LOAD_LOCAL, TF_SHAPE_U8, 4, 0, 0, NULL, 0, local, sizeof local);
+    written("LoadLocalW 256", TF_OP_LOAD_LOCAL_W, TF_SHAPE_U16, 256, 0, 0, NULL, 0, wide, sizeof wide);
+    written("a jump to itself", TF_OP_JUMP, TF_SHAPE_OFFSET, 65533, 0, 0, NULL, 0, jump, sizeof jump);
+    written("a keyword call", TF_OP_CALL_FUNCTION_KW, TF_SHAPE_CALL_KW, 3, 0, 0, names, 2, call, sizeof call);
+    written("255 names", TF_OP_CALL_FUNCTION_KW, TF_SHAPE_CALL_KW, 0, 0, 0, names, 255, many, sizeof many);
+    memset(out, '#', sizeof out);
+    refusal("131", tf_write(out, sizeof out, NO_OPCODE, TF_SHAPE_NONE, 0, 0, 0, names, 256), TF_UNKNOWN_OPCODE);
+    refusal("256 names", tf_write(out, sizeof out, TF_OP_CALL_FUNCTION_KW, TF_SHAPE_CALL_KW, 0, 0, 0, names, 256), TF_TOO_MANY_NAMES);
+    refusal("256 names before the shape", tf_write(out, sizeof out, TF_OP_POP, 12, 0, 0, 0, names, 256), TF_TOO_MANY_NAMES);
+    refusal("another shape", tf_write(out, sizeof out, TF_OP_POP, TF_SHAPE_U8, 0, 0, 0, NULL, 0), TF_WRONG_SHAPE);
+    refusal("a shape that is none", tf_write(out, sizeof out, TF_OP_POP, 12, 0, 0, 0, NULL, 0), TF_WRONG_SHAPE);
+    refusal("256 in a byte", tf_write(out, sizeof out, TF_OP_LOAD_LOCAL, TF_SHAPE_U8, 256, 0, 0, NULL, 0), TF_WRONG_SHAPE);
+    refusal("Pop with a name", tf_write(out, sizeof out, TF_OP_POP, TF_SHAPE_NONE, 0, 0, 0, names, 1), TF_WRONG_SHAPE);
+    refusal("2 before 18", tf_write(NULL, 0, TF_OP_POP, TF_SHAPE_U8, 0, 0, 0, NULL, 0), TF_WRONG_SHAPE);
+    refusal("no room", tf_write(NULL, 0, TF_OP_POP, TF_SHAPE_NONE, 0, 0, 0, NULL, 0), TF_FULL);
+    for (size_t i = 0; i < sizeof out; i++)
+        if (out[i] != '#')
+            report("a refusal writes nothing", 0);
+}
+
+static void handlers(void)
+{
+    /* the document's example: 2..8 to 20, 0..10 to 30; behind them a part of a row */
+    static const uint32_t rows[] = {2, 8, 20, 1, 0, 0, 0, 10, 30, 5, 6, 1, 0, 100, 40};
+    static const uint64_t inner[] = {0, 2, 8, 20, 1, 0, 0}, outer[] = {1, 0, 10, 30, 5, 6, 1};
+    const size_t length = sizeof rows / sizeof rows[0];
+    wrote("offset 1", tf_find_exception_handler(rows, length, 1, fresh(), CELLS), outer, TF_ROW_CELLS);
+    wrote("offset 2", tf_find_exception_handler(rows, length, 2, fresh(), CELLS), inner, TF_ROW_CELLS);
+    wrote("offset 7", tf_find_exception_handler(rows, length, 7, fresh(), TF_ROW_CELLS), inner, TF_ROW_CELLS);
+    wrote("offset 8", tf_find_exception_handler(rows, length, 8, fresh(), CELLS), outer, TF_ROW_CELLS);
+    nothing("offset 10", tf_find_exception_handler(rows, length, 10, fresh(), CELLS));
+    nothing("offset 10 wants no room", tf_find_exception_handler(rows, length, 10, NULL, 0));
+    nothing("no rows", tf_find_exception_handler(NULL, 0, 1, fresh(), CELLS));
+    refused("too little room", tf_find_exception_handler(rows, length, 2, fresh(), TF_ROW_CELLS - 1), TF_FULL);
+    report("the handler's offset has a name", inner[TF_HANDLER_OFFSET] == 20 && outer[TF_HANDLER_KIND] == 1);
+}
+
+static void locations(void)
+{
+    static const uint32_t rows[] = {3, 10, 12, 0, 0, 0, 7, 20, 29, 1, 22, 23, 8, 0, 0};
+    static const uint64_t first[] = {0, 3, 10, 12, 0, 0, 0}, last[] = {1, 7, 20, 29, 1, 22, 23};
+    const size_t length = sizeof rows / sizeof rows[0];
+    nothing("before the first row", tf_location_for_offset(rows, length, 2, fresh(), CELLS));
+    wrote("at the first row", tf_location_for_offset(rows, length, 3, fresh(), CELLS), first, TF_ROW_CELLS);
+    wrote("before the second row", tf_location_for_offset(rows, length, 6, fresh(), TF_ROW_CELLS), first, TF_ROW_CELLS);
+    wrote("behind the part of a row", tf_location_for_offset(rows, length, 9, fresh(), CELLS), last, TF_ROW_CELLS);
+    wrote("at the largest offset", tf_location_for_offset(rows, length, UINT32_MAX, fresh(), CELLS), last, TF_ROW_CELLS);
+    nothing("above it", tf_location_for_offset(rows, length, (size_t)UINT32_MAX + 1, fresh(), CELLS));
+    refused("too little room", tf_location_for_offset(rows, length, 3, fresh(), TF_ROW_CELLS - 1), TF_FULL);
+}
+
+static void constants_and_names(void)
+{
+    static const uint64_t constants[] = {5, UINT64_MAX}, names[] = {0, 1, 4294967296u, 4294967297u};
+    static const uint64_t largest[] = {UINT64_MAX}, zero[] = {0}, last[] = {4294967295u};
+    wrote("constant 1", tf_constant(constants, 2, 1, fresh(), CELLS), largest, 1);
+    nothing("constant 2", tf_constant(constants, 2, 2, fresh(), CELLS));
+    refused("a constant without room", tf_constant(constants, 2, 1, NULL, 0), TF_FULL);
+    nothing("slot 0 has no name", tf_local_name(names, 4, 0, fresh(), CELLS));
+    wrote("slot 1 has name 0", tf_local_name(names, 4, 1, fresh(), 1), zero, 1);
+    wrote("slot 2 has the last name", tf_local_name(names, 4, 2, fresh(), CELLS), last, 1);
+    nothing("slot 3 holds too large a number", tf_local_name(names, 4, 3, fresh(), CELLS));
+    nothing("slot 4", tf_local_name(names, 4, 4, fresh(), CELLS));
+    refused("a name without room", tf_local_name(names, 4, 1, NULL, 0), TF_FULL);
+}
+
+int main(void)
+{
+    nine_bytes();
+    operands();
+    keyword_call();
+    damaged();
+    writing();
+    handlers();
+    locations();
+    constants_and_names();
+    return verdict("code");
+}
