@@ -1,88 +1,52 @@
--- Counting the instructions of a code: what a loop knows after n of them.
+-- Laws of rising lists and of the count: two rising lists with the same members are one, so an assignment has one count.
 -- Assumes nothing.
 use mathlib.Core.Path.{_≡_, refl, sym, ap, _∙_}
-use mathlib.Core.List.{List, [], _∷_}
+use mathlib.Core.List.{List, [], _∷_, List·Memᴰ, List·Memᴰ·head, List·Memᴰ·tail, List·Memᴰ·cases-cons, List·Memᴰ·not-nil}
 use mathlib.Core.Logic.{⊎-elim}
-use Prim.Native.Nat.{ℕ, zero, suc, _+_, _≤_, _<_}
-use native.Mathlib.Nat.{zero-add, add-zero}
+use mathlib.Core.Option.{Option}
+use Prim.Native.Nat.{ℕ, suc, _≤_}
 use native.Mathlib.Omega.{arith}
-use lib.ListN.{length, drop}
-use lib.Seq.{drop-drop}
-use denote.Enum.Declared.{tagOf}
-use types.Run.{OneOf}
-use Rattle.op.specs.declared.Operand.{Operand}
-use Rattle.op.specs.declared.Refusal.{Refusal}
-use Rattle.code.specs.declared.Count.{Count}
-use Rattle.code.specs.declared.Count.the-variants.{Whole, Stopped}
-use Rattle.code.specs.declared.Step.{Step}
-use Rattle.code.specs.declared.Step.the-variants.{Instr, End, Refused}
-use Rattle.code.specs.Decode.{decode}
-use Rattle.code.specs.Reading.{plus, counted, countFrom, countOf, stopped}
-use Rattle.code.proofs.Decoding.{decoded-ends}
-use Rattle.code.proofs.Step.{the-type}
+use lib.ListN.{length}
+use Rattle.code.specs.Depths.{Rising, Counts}
 
--- n instructions end at `at`, and what is left is counted from there
-pub record Counting (s : List ℕ) (at n : ℕ) : Type 0 where
-  pub inside : at ≤ length s
-  pub few : n ≤ at
-  pub fuel : ℕ
-  pub enough : length s < at + fuel
-  pub so-far : countOf s ≡ plus n (countFrom fuel at (drop at s))
+-- a member is at least the bound
+pub rising-over : (n : ℕ) (xs : List ℕ) → Rising n xs → (o : ℕ) → List·Memᴰ o xs → n ≤ o
+rising-over n [] r o m = absurd (List·Memᴰ·not-nil m)
+rising-over n (x ∷ xs) r o m = ⊎-elim (λ e. omega (arith, e, r .0)) (λ k. omega (arith, rising-over (suc x) xs (r .1) o k, r .0)) (List·Memᴰ·cases-cons m)
 
-plus-zero : (c : Count) → c ≡ plus 0 c
-plus-zero (Whole m) = ap Whole (sym (zero-add m))
-plus-zero (Stopped m r) = ap (λ (k : ℕ). Stopped k r) (sym (zero-add m))
+pub rising-lower : (n m : ℕ) (xs : List ℕ) → n ≤ m → Rising m xs → Rising n xs
+rising-lower n m [] l r = tt
+rising-lower n m (x ∷ xs) l r = (omega (arith, r .0), r .1)
 
-plus-plus : (n m : ℕ) (c : Count) → plus n (plus m c) ≡ plus (n + m) c
-plus-plus n m (Whole k) = ap Whole (omega arith)
-plus-plus n m (Stopped k r) = let e : n + (m + k) ≡ n + m + k = omega arith in ap (λ (j : ℕ). Stopped j r) e
+-- the head is the least
+heads : (n m x y : ℕ) (xs ys : List ℕ) → Rising n (x ∷ xs) → Rising m (y ∷ ys) → List·Memᴰ x (y ∷ ys) → List·Memᴰ y (x ∷ xs) → x ≡ y
+heads n m x y xs ys r q mx my =
+    ⊎-elim (λ e. e) (λ k. ⊎-elim (λ e. sym e) (λ j.
+    let a = rising-over (suc y) ys (q .1) x k in
+    let b = rising-over (suc x) xs (r .1) y j in
+    omega arith) (List·Memᴰ·cases-cons my)) (List·Memᴰ·cases-cons mx)
 
-pub counting-none : (s : List ℕ) → Counting s 0 0
-unfolding countOf
-counting-none s = record {
-  inside = omega arith;
-  few = omega arith;
-  fuel = suc (length s);
-  enough = omega arith;
-  so-far = plus-zero (countFrom (suc (length s)) 0 s);
-}
+-- a member that is not the head is in the rest
+rest-in : (x y o : ℕ) (xs ys : List ℕ) → x ≡ y → Rising (suc x) xs → List·Memᴰ o xs → List·Memᴰ o (y ∷ ys) → List·Memᴰ o ys
+rest-in x y o xs ys e r m k = ⊎-elim (λ z. absurd (omega (arith, rising-over (suc x) xs r o m))) (λ j. j) (List·Memᴰ·cases-cons k)
 
--- one instruction is counted, and what is behind it
-step-on : (s : List ℕ) (at k : ℕ) (o : Operand) (z fuel : ℕ) → decode at (drop at s) ≡ Instr k o z
-    → countFrom (suc fuel) at (drop at s) ≡ plus 1 (countFrom fuel (at + z) (drop (at + z) s))
-unfolding countFrom
-step-on s at k o z fuel e =
-    ap (counted (countFrom fuel) at (drop at s)) e ∙ ap (λ (u : List ℕ). plus 1 (countFrom fuel (at + z) u)) (drop-drop z at s)
+pub rising-one : (n m : ℕ) (xs ys : List ℕ) → Rising n xs → Rising m ys → ((o : ℕ) → List·Memᴰ o xs → List·Memᴰ o ys) → ((o : ℕ) → List·Memᴰ o ys → List·Memᴰ o xs) → xs ≡ ys
+rising-one n m [] [] r q to from = refl
+rising-one n m [] (y ∷ ys) r q to from = absurd (List·Memᴰ·not-nil (from y (List·Memᴰ·head refl)))
+rising-one n m (x ∷ xs) [] r q to from = absurd (List·Memᴰ·not-nil (to x (List·Memᴰ·head refl)))
+rising-one n m (x ∷ xs) (y ∷ ys) r q to from =
+    let e : x ≡ y = heads n m x y xs ys r q (to x (List·Memᴰ·head refl)) (from y (List·Memᴰ·head refl)) in
+    let t : xs ≡ ys = rising-one (suc x) (suc y) xs ys (r .1) (q .1)
+    (λ o k. rest-in x y o xs ys e (r .1) k (to o (List·Memᴰ·tail k)))
+    (λ o k. rest-in y x o ys xs (sym e) (q .1) k (from o (List·Memᴰ·tail k))) in
+    cc
 
--- behind an instruction
-pub counting-on : (s : List ℕ) (at n k : ℕ) (o : Operand) (z : ℕ) → Counting s at n → decode at (drop at s) ≡ Instr k o z → Counting s (at + z) (n + 1)
-counting-on s at n k o z c e = go (c .fuel) (c .enough) (c .so-far)
+-- an assignment has one count
+pub counts-one : {s : List ℕ} {a b : ℕ → Option ℕ} {k m : ℕ} → ((o : ℕ) → a o ≡ b o) → Counts s a k → Counts s b m → k ≡ m
+counts-one {s} {a} {b} {k} {m} same A B = A .count ∙ ap length (rising-one 0 0 (A .starts) (B .starts) (A .rising) (B .rising) to from) ∙ sym (B .count)
   where
-    go : (f : ℕ) → length s < at + f → countOf s ≡ plus n (countFrom f at (drop at s)) → Counting s (at + z) (n + 1)
-    go zero h q = let b : ⊥ = omega (arith, c .inside) in absurd b
-    go (suc f) h q =
-        let ends = decoded-ends at s k o z e in
-        record {
-          inside = ends .1;
-          few = omega (arith, c .few, ends .0);
-          fuel = f;
-          enough = omega (arith, ends .0);
-          so-far = q ∙ ap (plus n) (step-on s at k o z f e) ∙ plus-plus n 1 (countFrom f (at + z) (drop (at + z) s));
-        }
+    to : (o : ℕ) → List·Memᴰ o (A .starts) → List·Memᴰ o (B .starts)
+    to o j = let g = A .each o j in B .all o (g .1) (g .0) (g .2) (g .3) (sym (same o) ∙ g .4)
 
--- the count, where a step is none
-stop-here : (s : List ℕ) (at n fuel : ℕ) (t : Step) → OneOf (1 ∷ 2 ∷ []) (tagOf the-type t) → decode at (drop at s) ≡ t
-    → stopped n t ≡ plus n (countFrom (suc fuel) at (drop at s))
-unfolding countFrom
-stop-here s at n fuel (Instr k o z) h e = absurd (⊎-elim (λ q. omega arith) (λ q. omega arith) h)
-stop-here s at n fuel End h e = ap Whole (sym (add-zero n)) ∙ sym (ap (λ (t : Step). plus n (counted (countFrom fuel) at (drop at s) t)) e)
-stop-here s at n fuel (Refused r) h e =
-    ap (λ (k : ℕ). Stopped k r) (sym (add-zero n)) ∙ sym (ap (λ (t : Step). plus n (counted (countFrom fuel) at (drop at s) t)) e)
-
--- at the end, or at a fault
-pub counting-stop : (s : List ℕ) (at n : ℕ) (t : Step) → OneOf (1 ∷ 2 ∷ []) (tagOf the-type t) → Counting s at n → decode at (drop at s) ≡ t → stopped n t ≡ countOf s
-counting-stop s at n t h c e = go (c .fuel) (c .enough) (c .so-far)
-  where
-    go : (f : ℕ) → length s < at + f → countOf s ≡ plus n (countFrom f at (drop at s)) → stopped n t ≡ countOf s
-    go zero l q = let b : ⊥ = omega (arith, c .inside) in absurd b
-    go (suc f) l q = stop-here s at n f t h e ∙ sym q
+    from : (o : ℕ) → List·Memᴰ o (B .starts) → List·Memᴰ o (A .starts)
+    from o j = let g = B .each o j in A .all o (g .1) (g .0) (g .2) (g .3) (same o ∙ g .4)

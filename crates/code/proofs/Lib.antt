@@ -7,9 +7,12 @@ pub mod Stores
 pub mod Writing
 pub mod Flows
 pub mod Examples
-pub mod Counting
+pub mod Counted
 pub mod First
 pub mod Rows
 pub mod Rising
 pub mod Joined
 pub mod ExampleH
+pub mod Places
+pub mod Assigning
+pub mod Counting

@@ -6,7 +6,7 @@ use native.Mathlib.Omega.{arith}
 use lib.ListN.{length}
 use borrow.Author.Needs.{needs}
 use Rattle.code.proofs.Decoding.{decoded-ends}
-use Rattle.code.proofs.Counting.{Counting, counting-none, counting-on, counting-stop}
+use Rattle.code.proofs.Counted.{Counting, counting-none, counting-on, counting-stop}
 use Rattle.code.proofs.reading.count.Statement.{statement}
 use Rattle.code.proofs.reading.count.Tie as tie
 

@@ -1,0 +1,242 @@
+-- A certificate that antt computes: cells that pass a test are the smallest assignment, and two depths that two paths lead to at one
+-- offset leave none. The examples rest on it.
+-- Assumes nothing.
+use mathlib.Core.Path.{_≡_, refl, sym, ap, subst, _∙_}
+use mathlib.Core.Bool.{Bool, true, false}
+use mathlib.Core.List.{List, _++_}
+use mathlib.Core.Option.{some}
+use Prim.Native.Nat.{ℕ, suc, _+_, _*_, _/_, _%_, _≤_, _<_}
+use native.Mathlib.Omega.{arith}
+use native.Mathlib.Decide.{decLt}
+use lib.Dec.{T, eqb, leb, eqb→eq, leb→le}
+use lib.ListN.{length, getD, drop, take, replicate, List·getD-eq-default}
+use borrow.Author.Tests.{le-leb}
+use Rattle.op.specs.Choice.{pick}
+use Rattle.op.specs.declared.After.{After}
+use Rattle.op.specs.declared.After.the-variants as A
+use Rattle.op.specs.declared.Refusal.the-variants.{NoDepths}
+use Rattle.op.proofs.Keys.{everyFrom, in-range}
+use Rattle.code.specs.declared.Change.{Change}
+use Rattle.code.specs.declared.Flow.{Flow}
+use Rattle.code.specs.declared.Flowing.{Flowing}
+use Rattle.code.specs.declared.Flowing.the-variants as F
+use Rattle.code.specs.declared.Goal.{Goal}
+use Rattle.code.specs.declared.Goal.the-variants.{Nowhere, To, Outside}
+use Rattle.code.specs.Flow.{flowOf}
+use Rattle.code.specs.Depths.{Stands, Place, first, Begins, Leads, Falls, Jumps, Kept, Assigns, Derived}
+use Rattle.code.proofs.Assigning.{leads-is, smallest, clash-depths}
+use Rattle.checker.specs.declared.Checked.{Checked}
+use Rattle.checker.specs.declared.Checked.the-variants.{Accepted, Refused}
+use Rattle.checker.specs.Cells.{cell, depthIn, held}
+use Rattle.checker.specs.Promise.{Listed, Solution, Promise}
+use Rattle.checker.specs.Inner.{NoFault}
+use Rattle.checker.proofs.Holding.{depth-in, in-depth, cell-in}
+use Rattle.checker.proofs.Solutions.{counted}
+use Rattle.checker.proofs.Walking.{walking-none}
+use Rattle.checker.proofs.Promising.{promise-some, promise-none, promise-one}
+use Rattle.checker.proofs.Reaching.{lead, reached, has, has-in, reached-derived, walksTo, walks-place, ends, ends-whole}
+
+-- tests
+
+abbrev pub both : Bool → Bool → Bool
+both true b = b
+both false b = false
+
+left : (a b : Bool) → T (both a b) → T a
+left true b t = tt
+left false b t = t
+
+right : (a b : Bool) → T (both a b) → T b
+right true b t = t
+right false b t = absurd t
+
+-- what an instruction with a depth asks of the cells
+
+abbrev pub holds : List ℕ → ℕ → After → Bool
+holds c q (A.Depth e) = eqb (cell c q) e
+holds c q (A.Refused r) = false
+
+abbrev pub inRange : After → Bool
+inRange (A.Depth e) = true
+inRange (A.Refused r) = false
+
+abbrev pub jumpOk : List ℕ → After → Goal → Bool
+jumpOk c x Nowhere = true
+jumpOk c x (To t) = holds c t x
+jumpOk c x Outside = false
+
+abbrev pub keptOk : List ℕ → ℕ → ℕ → Flowing → Bool
+keptOk c o d (F.Op f) = both (pick (f .falls) (holds c (o + f .size) (lead d (f .net))) (inRange (lead d (f .net)))) (jumpOk c (lead d (f .taken)) (f .goal))
+keptOk c o d F.End = true
+keptOk c o d (F.Refused q) = true
+
+module _ (c : List ℕ) (d : ℕ) (change : Change) where
+  holds-in : (q : ℕ) (x : After) → lead d change ≡ x → T (holds c q x) → (e : ℕ) × (Leads d change e × (depthIn c q ≡ some e))
+  holds-in q (A.Depth e) h t = (e, (h, depth-in c q e (eqb→eq (cell c q) e t) (leads-is d change e h .1)))
+  holds-in q (A.Refused r) h t = absurd t
+
+  range-in : (x : After) → lead d change ≡ x → T (inRange x) → (e : ℕ) × Leads d change e
+  range-in (A.Depth e) h t = (e, h)
+  range-in (A.Refused r) h t = absurd t
+
+module _ (c : List ℕ) (o d : ℕ) (f : Flow) where
+  falls-kept : (b : Bool) → f .falls ≡ b → T (pick b (holds c (o + f .size) (lead d (f .net))) (inRange (lead d (f .net)))) → Falls (depthIn c) f o d
+  falls-kept true fl t = let g = holds-in c d (f .net) (o + f .size) (lead d (f .net)) refl t in record { depth = g .0; leads = g .1 .0; has = λ y. g .1 .1 }
+  falls-kept false fl t = let g = range-in c d (f .net) (lead d (f .net)) refl t in record { depth = g .0; leads = g .1; has = λ y. absurd (clash y fl) }
+    where
+      clash : f .falls ≡ true → f .falls ≡ false → ⊥
+      clash p q = let z : _≡_ {A = ℕ} 0 1 = cc in omega arith
+
+  jumps-kept : (x : Goal) → f .goal ≡ x → T (jumpOk c (lead d (f .taken)) x) → (f .goal ≡ Nowhere → ⊥) → Jumps (depthIn c) f d
+  jumps-kept Nowhere g t n = absurd (n g)
+  jumps-kept (To q) g t n = let i = holds-in c d (f .taken) q (lead d (f .taken)) refl t in record { target = q; depth = i .0; goes = g; leads = i .1 .0; has = i .1 .1 }
+  jumps-kept Outside g t n = absurd t
+
+  op-kept : T (keptOk c o d (F.Op f)) → Kept (depthIn c) f o d
+  op-kept t =
+      let a = pick (f .falls) (holds c (o + f .size) (lead d (f .net))) (inRange (lead d (f .net))) in
+      let b = jumpOk c (lead d (f .taken)) (f .goal) in
+      record { falls = falls-kept (f .falls) refl (left a b t); jumps = jumps-kept (f .goal) refl (right a b t) }
+
+-- the test
+
+abbrev pub startOk : List ℕ → List ℕ → ℕ → Bool
+startOk s st k = both (leb (getD st (2 * k + 1) 0) 65535) (walksTo (suc (length s)) s (getD st (2 * k) 0) 0)
+
+-- the code has no fault, and the start list can be
+abbrev pub inputOk : List ℕ → List ℕ → Bool
+inputOk s st = both (ends (suc (length s)) s 0) (both (eqb (length st % 2) 0) (everyFrom (startOk s st) 0 (length st / 2)))
+
+abbrev pub depthOk : List ℕ → List ℕ → List ℕ → ℕ → ℕ → Bool
+depthOk s st c k o = both (has o (cell c o) (reached s st k)) (both (walksTo (suc (length s)) s o 0) (keptOk c o (cell c o) (flowOf o (drop o s))))
+
+-- a cell holds 65,536, or a depth that k steps lead to, at a place, and that is respected
+abbrev pub cellOk : List ℕ → List ℕ → List ℕ → ℕ → ℕ → Bool
+cellOk s st c k o = both (leb (cell c o) 65536) (pick (leb (cell c o) 65535) (depthOk s st c k o) true)
+
+abbrev pub startHeld : List ℕ → List ℕ → ℕ → Bool
+startHeld st c k = eqb (cell c (getD st (2 * k) 0)) (getD st (2 * k + 1) 0)
+
+unfoldable pub certificate : List ℕ → List ℕ → List ℕ → ℕ → Bool
+certificate s st c k =
+    both (inputOk s st)
+    (both (eqb (length c) (suc (length s)))
+    (both (everyFrom (startHeld st c) 0 (length st / 2))
+    (everyFrom (cellOk s st c k) 0 (length c))))
+
+module _ (s st : List ℕ) (t : T (inputOk s st)) where
+  t2 : T (both (eqb (length st % 2) 0) (everyFrom (startOk s st) 0 (length st / 2)))
+  t2 = right (ends (suc (length s)) s 0) (both (eqb (length st % 2) 0) (everyFrom (startOk s st) 0 (length st / 2))) t
+
+  pub input-whole : NoFault s
+  input-whole = ends-whole (suc (length s)) s 0 (walking-none s) (left (ends (suc (length s)) s 0) (both (eqb (length st % 2) 0) (everyFrom (startOk s st) 0 (length st / 2))) t)
+
+  pub input-listed : Listed s st
+  input-listed = record {
+    even = eqb→eq (length st % 2) 0 (left (eqb (length st % 2) 0) (everyFrom (startOk s st) 0 (length st / 2)) t2);
+    good = λ k l.
+        let i = in-range (startOk s st) 0 (length st / 2) k (omega arith) (omega arith) (right (eqb (length st % 2) 0) (everyFrom (startOk s st) 0 (length st / 2)) t2) in
+        let a = leb (getD st (2 * k + 1) 0) 65535 in
+        let b = walksTo (suc (length s)) s (getD st (2 * k) 0) 0 in
+        (leb→le (getD st (2 * k + 1) 0) 65535 (left a b i), walks-place (suc (length s)) s (getD st (2 * k) 0) 0 first (right a b i));
+  }
+
+-- what the test shows
+
+pub record Certified (s st c : List ℕ) : Type 0 where
+  pub whole : NoFault s
+  pub listed : Listed s st
+  pub solution : Solution s st c (held (take (length s) c))
+
+module _ (s st c : List ℕ) (k : ℕ) (input : T (inputOk s st)) (size : T (eqb (length c) (suc (length s))))
+    (firsts : T (everyFrom (startHeld st c) 0 (length st / 2))) (cells : T (everyFrom (cellOk s st c k) 0 (length c))) where
+  cell-ok : (o : ℕ) → o < length c → T (cellOk s st c k o)
+  cell-ok o l = in-range (cellOk s st c k) 0 (length c) o (omega arith) (omega arith) cells
+
+  cell-small : (o : ℕ) → cell c o ≤ 65536
+  cell-small o = elim (decLt o (length c)) [
+    | yes l ↦ leb→le (cell c o) 65536 (left (leb (cell c o) 65536) (pick (leb (cell c o) 65535) (depthOk s st c k o) true) (cell-ok o l))
+    | no l ↦ (let z : cell c o ≡ 65536 = List·getD-eq-default c 65536 (omega arith) in omega arith)
+  ]
+
+  deep : (o : ℕ) → cell c o ≤ 65535 → T (depthOk s st c k o)
+  deep o h =
+      let l = cell-in c o (λ z. omega arith) in
+      let t = right (leb (cell c o) 65536) (pick (leb (cell c o) 65535) (depthOk s st c k o) true) (cell-ok o l) in
+      subst (λ (b : Bool). T (pick b (depthOk s st c k o) true)) (le-leb (cell c o) 65535 h) t
+
+  deep-rest : (o : ℕ) → cell c o ≤ 65535 → T (both (walksTo (suc (length s)) s o 0) (keptOk c o (cell c o) (flowOf o (drop o s))))
+  deep-rest o h = right (has o (cell c o) (reached s st k)) (both (walksTo (suc (length s)) s o 0) (keptOk c o (cell c o) (flowOf o (drop o s)))) (deep o h)
+
+  cell-derived : (o d : ℕ) → depthIn c o ≡ some d → Derived s st o d
+  cell-derived o d e =
+      let i = in-depth c o d e in
+      let t = left (has o (cell c o) (reached s st k)) (both (walksTo (suc (length s)) s o 0) (keptOk c o (cell c o) (flowOf o (drop o s)))) (deep o (omega arith)) in
+      subst (λ (x : ℕ). Derived s st o x) (i .0) (reached-derived s st k o (cell c o) (has-in o (cell c o) (reached s st k) t))
+
+  cell-place : (o d : ℕ) → depthIn c o ≡ some d → Place s o × (d ≤ 65535)
+  cell-place o d e =
+      let i = in-depth c o d e in
+      (walks-place (suc (length s)) s o 0 first (left (walksTo (suc (length s)) s o 0) (keptOk c o (cell c o) (flowOf o (drop o s))) (deep-rest o (omega arith))), i .1)
+
+  cell-kept : (o d : ℕ) (f : Flow) → depthIn c o ≡ some d → Stands s o f → Kept (depthIn c) f o d
+  cell-kept o d f e h =
+      let i = in-depth c o d e in
+      let t = right (walksTo (suc (length s)) s o 0) (keptOk c o (cell c o) (flowOf o (drop o s))) (deep-rest o (omega arith)) in
+      subst (λ (x : ℕ). Kept (depthIn c) f o x) (i .0) (op-kept c o (cell c o) f (subst (λ (x : Flowing). T (keptOk c o (cell c o) x)) (h .is) t))
+
+  start-held : (o d : ℕ) → Begins st o d → depthIn c o ≡ some d
+  start-held o d B =
+      let j = B .row in
+      let l = B .inside in
+      let t = in-range (startHeld st c) 0 (length st / 2) (B .row) (omega arith) (omega arith) firsts in
+      let e = eqb→eq (cell c (getD st (2 * B .row) 0)) (getD st (2 * B .row + 1) 0) t in
+      let g = input-listed s st input .good (B .row) (B .inside) .0 in
+      depth-in c o d (sym (ap (cell c) (B .offset)) ∙ e ∙ B .depth) (omega (arith, g, B .depth))
+
+  cells-assign : Assigns s st (depthIn c)
+  cells-assign = record { places = cell-place; starts = start-held; kept = cell-kept }
+
+  pub cells-certified : Certified s st c
+  cells-certified =
+      let e : length c ≡ suc (length s) = eqb→eq (length c) (suc (length s)) size in
+      record {
+        whole = input-whole s st input;
+        listed = input-listed s st input;
+        solution = record {
+          size = e;
+          smallest = smallest cells-assign cell-derived;
+          others = cell-small;
+          derived = cell-derived;
+          count = counted c (input-whole s st input) cells-assign e;
+        };
+      }
+
+pub certified : (s st c : List ℕ) (k : ℕ) → T (certificate s st c k) → Certified s st c
+unfolding certificate
+certified s st c k t =
+    let last = everyFrom (cellOk s st c k) 0 (length c) in
+    let third = both (everyFrom (startHeld st c) 0 (length st / 2)) last in
+    let second = both (eqb (length c) (suc (length s))) third in
+    let t2 = right (inputOk s st) second t in
+    let t3 = right (eqb (length c) (suc (length s))) third t2 in
+    cells-certified s st c k (left (inputOk s st) second t) (left (eqb (length c) (suc (length s))) third t2)
+    (left (everyFrom (startHeld st c) 0 (length st / 2)) last t3) (right (everyFrom (startHeld st c) 0 (length st / 2)) last t3)
+
+-- so every check of such code answers and leaves just this
+pub must-accept : (s st c : List ℕ) (k : ℕ) → T (certificate s st c k) → length s ≤ 1048576 → (d d′ : List ℕ) (r : Checked) → length s < length d → Promise s st d d′ r
+    → (r ≡ Accepted (held (take (length s) c))) × (d′ ≡ c ++ drop (suc (length s)) d)
+must-accept s st c k t l d d′ r room P =
+    let C = certified s st c k t in
+    let e = c ++ drop (suc (length s)) d in
+    promise-one s st d d′ e r (Accepted (held (take (length s) c))) P (promise-some s st d l room (C .whole) (C .listed) e c (held (take (length s) c)) (C .solution) refl)
+
+-- two paths of at most k steps bring two depths to one offset
+pub must-refuse : (s st : List ℕ) (k o a b : ℕ) → T (inputOk s st) → T (has o a (reached s st k)) → T (has o b (reached s st k)) → (a ≡ b → ⊥) → length s ≤ 1048576
+    → (d d′ : List ℕ) (r : Checked) → length s < length d → Promise s st d d′ r
+    → (r ≡ Refused NoDepths) × (d′ ≡ replicate (suc (length s)) 65536 ++ drop (suc (length s)) d)
+must-refuse s st k o a b t ta tb n l d d′ r room P =
+    let e = replicate (suc (length s)) 65536 ++ drop (suc (length s)) d in
+    let D = reached-derived s st k o a (has-in o a (reached s st k) ta) in
+    let G = reached-derived s st k o b (has-in o b (reached s st k) tb) in
+    promise-one s st d d′ e r (Refused NoDepths) P (promise-none s st d l room (input-whole s st t) (input-listed s st t) e (clash-depths D G n) refl)

@@ -1,0 +1,10 @@
+pub mod Holding
+pub mod Visiting
+pub mod Sweeping
+pub mod Walking
+pub mod Cleaning
+pub mod Solutions
+pub mod Promising
+pub mod Reaching
+pub mod Certificate
+pub mod Examples

@@ -1,0 +1,181 @@
+-- What antt can compute of paths and of the walk over the code: depths that some steps from the starts lead to, offsets that the walk
+-- comes to. The certificate of an assignment rests on it.
+-- Assumes nothing.
+use mathlib.Core.Path.{_≡_, refl, sym, ap, subst, _∙_}
+use mathlib.Core.Bool.{Bool, true, false}
+use mathlib.Core.List.{List, [], _∷_, _++_, List·Memᴰ, List·Memᴰ·head, List·Memᴰ·tail, List·Memᴰ·cases-cons, List·Memᴰ·not-nil, List·Memᴰ·append-cases}
+use mathlib.Core.Logic.{⊎-elim}
+use Prim.Native.Nat.{ℕ, zero, suc, _+_, _*_}
+use native.Mathlib.Omega.{arith}
+use lib.Dec.{T, eqb, eqb→eq}
+use lib.ListN.{drop}
+use Rattle.op.specs.Choice.{pick}
+use Rattle.op.specs.Depths.{landing, lowFalling}
+use Rattle.op.specs.declared.After.{After}
+use Rattle.op.specs.declared.After.the-variants as A
+use Rattle.op.specs.declared.Effect.the-variants as E
+use Rattle.code.specs.declared.Change.{Change}
+use Rattle.code.specs.declared.Flow.{Flow}
+use Rattle.code.specs.declared.Flowing.{Flowing}
+use Rattle.code.specs.declared.Flowing.the-variants as F
+use Rattle.code.specs.declared.Goal.{Goal}
+use Rattle.code.specs.declared.Goal.the-variants.{Nowhere, To, Outside}
+use Rattle.code.specs.Flow.{flowOf}
+use Rattle.code.specs.Depths.{Stands, Place, next, Begins, Derived, start, fall, jump}
+use Rattle.checker.specs.declared.Checked.the-variants.{Refused}
+use Rattle.checker.specs.Inner.{NoFault}
+use Rattle.checker.proofs.Walking.{Walking, walking-on, walked-all}
+
+-- depths that paths of at most k steps lead to
+
+-- a depth given to an offset
+pub data Given : Type 0 where
+  given : ℕ → ℕ → Given
+
+abbrev pub lead : ℕ → Change → After
+lead d c = landing lowFalling d (E.By (c .up) (c .down))
+
+abbrev pub gives : ℕ → After → List Given
+gives q (A.Depth e) = given q e ∷ []
+gives q (A.Refused r) = []
+
+abbrev pub leaps : ℕ → Change → Goal → List Given
+leaps d c Nowhere = []
+leaps d c (To t) = gives t (lead d c)
+leaps d c Outside = []
+
+abbrev pub onward : ℕ → ℕ → Flowing → List Given
+onward o d (F.Op f) = pick (f .falls) (gives (o + f .size) (lead d (f .net))) [] ++ leaps d (f .taken) (f .goal)
+onward o d F.End = []
+onward o d (F.Refused q) = []
+
+abbrev pub steps : List ℕ → List Given → List Given
+steps s [] = []
+steps s (given o d ∷ xs) = onward o d (flowOf o (drop o s)) ++ steps s xs
+
+abbrev pub pairs : List ℕ → List Given
+pairs [] = []
+pairs (o ∷ []) = []
+pairs (o ∷ (d ∷ st)) = given o d ∷ pairs st
+
+abbrev pub reached : List ℕ → List ℕ → ℕ → List Given
+reached s st zero = pairs st
+reached s st (suc k) = pairs st ++ steps s (reached s st k)
+
+abbrev pub has : ℕ → ℕ → List Given → Bool
+has o d [] = false
+has o d (given q e ∷ xs) = pick (eqb o q) (pick (eqb d e) true (has o d xs)) (has o d xs)
+
+pub has-in : (o d : ℕ) (xs : List Given) → T (has o d xs) → List·Memᴰ (given o d) xs
+has-in o d [] t = absurd t
+has-in o d (given q e ∷ xs) t = one (eqb o q) (eqb d e) refl refl (has-in o d xs) t
+  where
+    one : (a b : Bool) → eqb o q ≡ a → eqb d e ≡ b → (T (has o d xs) → List·Memᴰ (given o d) xs)
+        → T (pick a (pick b true (has o d xs)) (has o d xs)) → List·Memᴰ (given o d) (given q e ∷ xs)
+    one true true ea eb later t =
+        let x : o ≡ q = eqb→eq o q (subst T (sym ea) tt) in
+        let y : d ≡ e = eqb→eq d e (subst T (sym eb) tt) in
+        let z : given o d ≡ given q e = cc in
+        List·Memᴰ·head z
+    one true false ea eb later t = List·Memᴰ·tail (later t)
+    one false b ea eb later t = List·Memᴰ·tail (later t)
+
+begins-more : (x y : ℕ) (st : List ℕ) (o d : ℕ) → Begins st o d → Begins (x ∷ (y ∷ st)) o d
+begins-more x y st o d B =
+    let e : 2 * suc (B .row) ≡ suc (suc (2 * B .row)) = omega arith in
+    let g : 2 * suc (B .row) + 1 ≡ suc (suc (2 * B .row + 1)) = omega arith in
+    record { row = suc (B .row); inside = omega (arith, B .inside); offset = rw e (B .offset); depth = rw g (B .depth) }
+
+begins-in : (st : List ℕ) (o d : ℕ) → List·Memᴰ (given o d) (pairs st) → Begins st o d
+begins-in [] o d m = absurd (List·Memᴰ·not-nil m)
+begins-in (x ∷ []) o d m = absurd (List·Memᴰ·not-nil m)
+begins-in (x ∷ (y ∷ st)) o d m = ⊎-elim here (λ j. begins-more x y st o d (begins-in st o d j)) (List·Memᴰ·cases-cons m)
+  where
+    here : given o d ≡ given x y → Begins (x ∷ (y ∷ st)) o d
+    here e =
+        let a : x ≡ o = cc in
+        let b : y ≡ d = cc in
+        record { row = 0; inside = omega arith; offset = a; depth = b }
+
+gives-in : (t : ℕ) (x : After) (q e : ℕ) → List·Memᴰ (given q e) (gives t x) → (t ≡ q) × (x ≡ A.Depth e)
+gives-in t (A.Depth g) q e m = ⊎-elim (λ z. (let a : t ≡ q = cc in let b : A.Depth g ≡ A.Depth e = cc in (a, b))) (λ j. absurd (List·Memᴰ·not-nil j)) (List·Memᴰ·cases-cons m)
+gives-in t (A.Refused r) q e m = absurd (List·Memᴰ·not-nil m)
+
+module _ (s st : List ℕ) where
+  module _ (o d : ℕ) (D : Derived s st o d) (f : Flow) (h : Stands s o f) (q e : ℕ) where
+    falls-derived : (b : Bool) → f .falls ≡ b → List·Memᴰ (given q e) (pick b (gives (o + f .size) (lead d (f .net))) []) → Derived s st q e
+    falls-derived true fl m = let g = gives-in (o + f .size) (lead d (f .net)) q e m in fall D h fl (g .1) (g .0)
+    falls-derived false fl m = absurd (List·Memᴰ·not-nil m)
+
+    leaps-derived : (x : Goal) → f .goal ≡ x → List·Memᴰ (given q e) (leaps d (f .taken) x) → Derived s st q e
+    leaps-derived Nowhere g m = absurd (List·Memᴰ·not-nil m)
+    leaps-derived (To t) g m = let i = gives-in t (lead d (f .taken)) q e m in jump D h (g ∙ ap To (i .0)) (i .1)
+    leaps-derived Outside g m = absurd (List·Memᴰ·not-nil m)
+
+  onward-derived : (o d : ℕ) → Derived s st o d → (x : Flowing) → flowOf o (drop o s) ≡ x → (q e : ℕ) → List·Memᴰ (given q e) (onward o d x) → Derived s st q e
+  onward-derived o d D (F.Op f) h q e m =
+      let w : Stands s o f = record { is = h } in
+      ⊎-elim (falls-derived o d D f w q e (f .falls) refl) (leaps-derived o d D f w q e (f .goal) refl)
+      (List·Memᴰ·append-cases (pick (f .falls) (gives (o + f .size) (lead d (f .net))) []) m)
+  onward-derived o d D F.End h q e m = absurd (List·Memᴰ·not-nil m)
+  onward-derived o d D (F.Refused r) h q e m = absurd (List·Memᴰ·not-nil m)
+
+  steps-derived : (xs : List Given) → ((o d : ℕ) → List·Memᴰ (given o d) xs → Derived s st o d) → (q e : ℕ) → List·Memᴰ (given q e) (steps s xs) → Derived s st q e
+  steps-derived [] all q e m = absurd (List·Memᴰ·not-nil m)
+  steps-derived (given o d ∷ xs) all q e m =
+      ⊎-elim (onward-derived o d (all o d (List·Memᴰ·head refl)) (flowOf o (drop o s)) refl q e)
+      (steps-derived xs (λ p g j. all p g (List·Memᴰ·tail j)) q e)
+      (List·Memᴰ·append-cases (onward o d (flowOf o (drop o s))) m)
+
+  pub reached-derived : (k o d : ℕ) → List·Memᴰ (given o d) (reached s st k) → Derived s st o d
+  reached-derived zero o d m = start (begins-in st o d m)
+  reached-derived (suc k) o d m =
+      ⊎-elim (λ j. start (begins-in st o d j)) (steps-derived (reached s st k) (reached-derived k) o d) (List·Memᴰ·append-cases (pairs st) m)
+
+-- the walk over the code
+
+abbrev pub walkOn : (ℕ → Bool) → ℕ → ℕ → Flowing → Bool
+walkOn more o at (F.Op f) = pick (eqb o at) true (more (at + f .size))
+walkOn more o at F.End = eqb o at
+walkOn more o at (F.Refused q) = false
+
+-- walking at most k instructions from `at` on comes to o
+abbrev pub walksTo : ℕ → List ℕ → ℕ → ℕ → Bool
+walksTo zero s o at = false
+walksTo (suc k) s o at = walkOn (walksTo k s o) o at (flowOf at (drop at s))
+
+pub walks-place : (k : ℕ) (s : List ℕ) (o at : ℕ) → Place s at → T (walksTo k s o at) → Place s o
+walks-place zero s o at p t = absurd t
+walks-place (suc k) s o at p t = one (flowOf at (drop at s)) refl (λ q. walks-place k s o q) t
+  where
+    same : T (eqb o at) → Place s o
+    same t = subst (λ (x : ℕ). Place s x) (sym (eqb→eq o at t)) p
+
+    two : (b : Bool) → eqb o at ≡ b → (f : Flow) → Stands s at f → ((q : ℕ) → Place s q → T (walksTo k s o q) → Place s o)
+        → T (pick b true (walksTo k s o (at + f .size))) → Place s o
+    two true e f h later t = same (subst T (sym e) tt)
+    two false e f h later t = later (at + f .size) (next p h refl) t
+
+    one : (x : Flowing) → flowOf at (drop at s) ≡ x → ((q : ℕ) → Place s q → T (walksTo k s o q) → Place s o) → T (walkOn (walksTo k s o) o at x) → Place s o
+    one (F.Op f) e later t = two (eqb o at) refl f (record { is = e }) later t
+    one F.End e later t = same t
+    one (F.Refused q) e later t = absurd t
+
+abbrev pub endOn : (ℕ → Bool) → ℕ → Flowing → Bool
+endOn more at (F.Op f) = more (at + f .size)
+endOn more at F.End = true
+endOn more at (F.Refused q) = false
+
+-- it comes to the end
+abbrev pub ends : ℕ → List ℕ → ℕ → Bool
+ends zero s at = false
+ends (suc k) s at = endOn (ends k s) at (flowOf at (drop at s))
+
+pub ends-whole : (k : ℕ) (s : List ℕ) (at : ℕ) → Walking s at → T (ends k s at) → NoFault s
+ends-whole zero s at W t = absurd t
+ends-whole (suc k) s at W t = one (flowOf at (drop at s)) refl (λ q. ends-whole k s q) t
+  where
+    one : (x : Flowing) → flowOf at (drop at s) ≡ x → ((q : ℕ) → Walking s q → T (ends k s q) → NoFault s) → T (endOn (ends k s) at x) → NoFault s
+    one (F.Op f) e later t = later (at + f .size) (walking-on W (record { is = e })) t
+    one F.End e later t = walked-all W e
+    one (F.Refused q) e later t = absurd t

@@ -1,0 +1,22 @@
+-- Cells of depths: document 01, "65,536 in every other cell".
+-- Assumes nothing.
+use mathlib.Core.List.{List, [], _∷_}
+use mathlib.Core.Option.{Option, some, none}
+use Prim.Native.Nat.{ℕ, _+_}
+use lib.Dec.{leb}
+use lib.ListN.{getD}
+use Rattle.op.specs.Choice.{pick}
+use Rattle.op.specs.Depths.{deepest}
+
+-- the number in the cell of an offset
+abbrev pub cell : List ℕ → ℕ → ℕ
+cell c o = getD c o 65536
+
+-- the cells as an assignment
+unfoldable pub depthIn : List ℕ → ℕ → Option ℕ
+depthIn c o = pick (leb (cell c o) deepest) (some (cell c o)) none
+
+-- how many cells hold a depth
+unfoldable pub held : List ℕ → ℕ
+held [] = 0
+held (x ∷ xs) = pick (leb x deepest) 1 0 + held xs

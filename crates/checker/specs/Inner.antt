@@ -1,0 +1,152 @@
+-- What the checker's inner functions promise one another. c are the cells of the code and its end before a call, c′ after it.
+-- Assumes nothing.
+use mathlib.Core.Path.{_≡_}
+use mathlib.Core.Bool.{Bool, true, false}
+use mathlib.Core.List.{List}
+use mathlib.Core.Logic.{_⊎_}
+use mathlib.Core.Option.{some}
+use Prim.Native.Nat.{ℕ, suc, _+_, _≤_, _<_}
+use lib.ListN.{length, set, replicate}
+use Rattle.op.specs.declared.Refusal.{Refusal}
+use Rattle.op.specs.declared.Refusal.the-variants.{NoDepths}
+use Rattle.code.specs.declared.Change.{Change}
+use Rattle.code.specs.declared.Flow.{Flow}
+use Rattle.code.specs.declared.Goal.{Goal}
+use Rattle.code.specs.declared.Goal.the-variants.{Nowhere, To, Outside}
+use Rattle.code.specs.Depths.{Stands, Place, Faulty, Begins, Leads, Falls, Jumps, Kept, Impossible, Derived}
+use Rattle.checker.specs.declared.Checked.{Checked}
+use Rattle.checker.specs.declared.Checked.the-variants.{Accepted, Refused}
+use Rattle.checker.specs.declared.Walk.{Walk}
+use Rattle.checker.specs.declared.Walk.the-variants.{Fault, Whole}
+use Rattle.checker.specs.Cells.{cell, depthIn, held}
+use Rattle.checker.specs.Promise.{Solution}
+
+-- cells in work: 65,536 at what is no place, 65,537 at a place without a depth, and every depth is derived
+pub record Sound (s st c : List ℕ) : Type 0 where
+  pub small : (o : ℕ) → cell c o ≤ 65537
+  pub marked : (o : ℕ) → Place s o → cell c o ≡ 65536 → ⊥
+  pub place : (o : ℕ) → (cell c o ≡ 65536 → ⊥) → Place s o
+  pub derived : (o d : ℕ) → depthIn c o ≡ some d → Derived s st o d
+
+-- some work answered r: 0 nothing changed, 1 there are more depths, 2 refused
+pub record Stepped (c c′ : List ℕ) (r : ℕ) : Type 0 where
+  pub size : length c′ ≡ length c
+  pub range : r ≤ 2
+  pub same : r ≡ 0 → c′ ≡ c
+  pub more : r ≡ 1 → held c < held c′
+  pub keeps : (o d : ℕ) → depthIn c o ≡ some d → depthIn c′ o ≡ some d
+
+pub record Follows (s st c′ : List ℕ) (r : ℕ) : Type 0 where
+  pub sound : r ≤ 1 → Sound s st c′
+  pub stuck : r ≡ 2 → Impossible s st
+
+-- only the cell o changed, and where it did, it was in reach and is one depth more
+pub record Touched (c c′ : List ℕ) (o r : ℕ) : Type 0 where
+  pub only : (q : ℕ) → (q ≡ o → ⊥) → cell c′ q ≡ cell c q
+  pub within : r ≡ 1 → o < length c
+  pub weigh : r ≤ 1 → held c′ ≡ held c + r
+
+-- the instruction at o is respected, if it has a depth
+abbrev pub KeptAt : List ℕ → List ℕ → ℕ → Type 0
+KeptAt s c o = (f : Flow) (d : ℕ) → depthIn c o ≡ some d → Stands s o f → Kept (depthIn c) f o d
+
+-- a depth after a change: 65,536 where it is out of range
+pub record Landed (d : ℕ) (c : Change) (r : ℕ) : Type 0 where
+  pub small : r ≤ 65536
+  pub leads : r ≤ 65535 → Leads d c r
+  pub out : 65535 < r → (e : ℕ) → Leads d c e → ⊥
+
+-- one cell gets a depth that something asks of it
+pub record Visited (c c′ : List ℕ) (o d r : ℕ) : Type 0 where
+  pub step : Stepped c c′ r
+  pub follows : (s st : List ℕ) → Sound s st c → Derived s st o d → Follows s st c′ r
+  pub put : r ≤ 1 → depthIn c′ o ≡ some d
+  pub touch : Touched c c′ o r
+
+-- the same of the depth that a change leads to, if there is one
+pub record Arrived (c c′ : List ℕ) (o d : ℕ) (change : Change) (r : ℕ) : Type 0 where
+  pub step : Stepped c c′ r
+  pub follows : (s st : List ℕ) → Sound s st c → ((e : ℕ) → Leads d change e → Derived s st o e) → (((e : ℕ) → Leads d change e → ⊥) → Impossible s st) → Follows s st c′ r
+  pub put : r ≤ 1 → (e : ℕ) × (Leads d change e × (depthIn c′ o ≡ some e))
+  pub touch : Touched c c′ o r
+
+pub record Fell (f : Flow) (c c′ : List ℕ) (at d r : ℕ) : Type 0 where
+  pub step : Stepped c c′ r
+  pub follows : (s st : List ℕ) → Sound s st c → Derived s st at d → Stands s at f → Follows s st c′ r
+  pub net : r ≤ 1 → Falls (depthIn c′) f at d
+  pub touch : Touched c c′ (at + f .size) r
+
+-- the offset of a goal; 0 where it has none
+abbrev pub spot : Goal → ℕ
+spot Nowhere = 0
+spot (To t) = t
+spot Outside = 0
+
+pub record Jumped (f : Flow) (c c′ : List ℕ) (d r : ℕ) : Type 0 where
+  pub step : Stepped c c′ r
+  pub follows : (s st : List ℕ) (at : ℕ) → Sound s st c → Derived s st at d → Stands s at f → Follows s st c′ r
+  pub taken : r ≤ 1 → (f .goal ≡ Nowhere → ⊥) → Jumps (depthIn c′) f d
+  pub touch : Touched c c′ (spot (f .goal)) r
+
+-- the instruction at `at` is asked for what it asks
+pub record Relaxed (s c c′ : List ℕ) (at r : ℕ) : Type 0 where
+  pub step : Stepped c c′ r
+  pub follows : (st : List ℕ) → Sound s st c → Follows s st c′ r
+  pub kept : r ≡ 0 → KeptAt s c at
+
+-- all instructions below `at` are
+pub record Swept (s c c′ : List ℕ) (at r : ℕ) : Type 0 where
+  pub step : Stepped c c′ r
+  pub follows : (st : List ℕ) → Sound s st c → Follows s st c′ r
+  pub kept : r ≡ 0 → (o : ℕ) → o < at → KeptAt s c′ o
+
+-- nothing is left to ask, or there is no assignment
+pub record Settled (s c c′ : List ℕ) (r : Bool) : Type 0 where
+  pub size : length c′ ≡ length c
+  pub keeps : r ≡ true → (o d : ℕ) → depthIn c o ≡ some d → depthIn c′ o ≡ some d
+  pub sound : r ≡ true → (st : List ℕ) → Sound s st c → Sound s st c′
+  pub kept : r ≡ true → (o : ℕ) → KeptAt s c′ o
+  pub stuck : r ≡ false → (st : List ℕ) → Sound s st c → Impossible s st
+
+-- the walk for faults
+abbrev pub NoFault : List ℕ → Type 0
+NoFault s = (q : Refusal) → Faulty s q → ⊥
+
+abbrev pub Walked : List ℕ → Walk → Type 0
+Walked s Whole = NoFault s
+Walked s (Fault q) = Faulty s q
+
+-- r says whether P holds
+pub record Tells (r : Bool) (P : Type 0) : Type 0 where
+  pub yes : r ≡ true → P
+  pub no : r ≡ false → P → ⊥
+
+-- the cells where the work begins
+pub record Marked (s c : List ℕ) : Type 0 where
+  pub place : (o : ℕ) → Place s o → cell c o ≡ 65537
+  pub only : (o : ℕ) → (cell c o ≡ 65536) ⊎ ((cell c o ≡ 65537) × Place s o)
+
+-- the starts have their depths
+pub record Placed (st c c′ : List ℕ) (r : Bool) : Type 0 where
+  pub size : length c′ ≡ length c
+  pub has : r ≡ true → (o d : ℕ) → Begins st o d → depthIn c′ o ≡ some d
+  pub sound : r ≡ true → (s : List ℕ) → Sound s st c → Sound s st c′
+  pub stuck : r ≡ false → (s : List ℕ) → Sound s st c → Impossible s st
+
+-- one cell is made 65,536 if it holds no depth
+pub record Tidied (c c′ : List ℕ) (i r : ℕ) : Type 0 where
+  pub range : r ≤ 1
+  pub one : r ≡ 1 → (c′ ≡ c) × (cell c i ≤ 65535)
+  pub zero : r ≡ 0 → (c′ ≡ set c i 65536) × (65535 < cell c i)
+
+-- the cells below i are
+pub record Cleaned (c c′ : List ℕ) (i : ℕ) : Type 0 where
+  pub size : length c′ ≡ length c
+  pub has : (o : ℕ) → o < i → cell c o ≤ 65535 → cell c′ o ≡ cell c o
+  pub hasnt : (o : ℕ) → o < i → 65535 < cell c o → cell c′ o ≡ 65536
+  pub above : (o : ℕ) → i ≤ o → cell c′ o ≡ cell c o
+
+-- the whole work, on cells of just the code's length and one
+abbrev pub Outcome : List ℕ → List ℕ → List ℕ → Checked → Type 0
+Outcome s st c (Accepted k) = Solution s st c k
+Outcome s st c (Refused q) = (q ≡ NoDepths) × Impossible s st × (c ≡ replicate (suc (length s)) 65536)

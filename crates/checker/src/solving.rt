@@ -1,0 +1,52 @@
+// The whole work on the cells of the code and its end.
+ghost use mathlib.Core.Path.{_≡_};
+ghost use Prim.Native.Nat.{ℕ, suc, _+_, _*_, _<_, _≤_};
+ghost use lib.ListN.{length, getD};
+ghost use Rattle.checker.specs.Promise.{Listed};
+ghost use Rattle.checker.specs.Inner.{NoFault, Placed, Outcome};
+use crate::Checked;
+use crate::cells;
+use crate::sweeps;
+use crate::visits;
+use crate::walks;
+use op::Refusal;
+
+// Each start gives its place its depth; answers whether no two differ.
+fn begin(starts: &[u32], cells: &mut [u32]) -> bool
+    requires { ⌜ ((k : ℕ) → 2 * k + 1 < length (now starts) → getD (now starts) (2 * k + 1) 0 ≤ 65535) ⌝ }
+    ensures { λ r. ⌜ Placed (now (starts .entry)) (now (cells .entry)) (now (cells .exit)) r ⌝ }
+{
+    let half = starts.len() / 2;
+    let mut k = 0;
+    while k < half {
+        let o = starts[2 * k];
+        let d = starts[2 * k + 1];
+        let r = visits::visit(cells, walks::index(o), d);
+        if r == 2 {
+            return false;
+        }
+        k += 1;
+    }
+    true
+}
+
+// The smallest assignment and its count, or 23.
+pub fn solve(code: &[u8], starts: &[u32], cells: &mut [u32]) -> Checked
+    requires { ⌜ (length (now code) ≤ 1048576) × (length (now cells) ≡ suc (length (now code))) × NoFault (now code) × Listed (now code) (now starts) ⌝ }
+    ensures { λ r. ⌜ Outcome (now (code .entry)) (now (starts .entry)) (now (cells .exit)) r ⌝ }
+{
+    cells::fill(cells, 65536);
+    walks::mark(code, cells);
+    let begun = begin(starts, cells);
+    if begun {
+        let done = sweeps::settle(code, cells);
+        if done {
+            let k = cells::clean(cells);
+            return Checked::Accepted(k);
+        }
+        cells::fill(cells, 65536);
+        return Checked::Refused(Refusal::NoDepths);
+    }
+    cells::fill(cells, 65536);
+    Checked::Refused(Refusal::NoDepths)
+}

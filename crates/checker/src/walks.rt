@@ -1,0 +1,99 @@
+// Walks over the code from its first instruction on: faults, instruction starts, the start list.
+ghost use mathlib.Core.Path.{_≡_};
+ghost use Prim.Native.Nat.{ℕ, suc, _<_, _≤_};
+ghost use lib.ListN.{length};
+ghost use Rattle.code.specs.Depths.{Place, Faulty};
+ghost use Rattle.checker.specs.Cells.{cell};
+ghost use Rattle.checker.specs.Promise.{Listed};
+ghost use Rattle.checker.specs.Inner.{Walked, NoFault, Tells, Marked};
+use crate::Walk;
+use code::Flowing;
+use code::decoder;
+
+// The first fault, if there is one.
+pub fn walk_all(code: &[u8]) -> Walk
+    ensures { λ r. ⌜ Walked (now (code .entry)) r ⌝ }
+{
+    let mut at = 0;
+    loop {
+        let got = decoder::flow_at(code, at);
+        match got {
+            Flowing::Op(f) => {
+                let size = f.size;
+                at += size;
+            }
+            Flowing::End => {
+                return Walk::Whole;
+            }
+            Flowing::Refused(refusal) => {
+                return Walk::Fault(refusal);
+            }
+        }
+    }
+}
+
+// Whether an offset is an instruction's start or the end.
+fn is_place(code: &[u8], o: usize) -> bool
+    ensures { λ r. ⌜ Tells r (Place (now (code .entry)) o) ⌝ }
+{
+    let mut at = 0;
+    while at < o {
+        let got = decoder::flow_at(code, at);
+        let Flowing::Op(f) = got else {
+            return false;
+        };
+        let size = f.size;
+        at += size;
+    }
+    at == o
+}
+
+// A u32 as an index.
+pub fn index(x: u32) -> usize
+    ensures { λ r. ⌜ r ≡ x ⌝ }
+{
+    x as usize
+}
+
+// Whether the start list is one that can be.
+pub fn starts_fine(code: &[u8], starts: &[u32]) -> bool
+    ensures { λ r. ⌜ Tells r (Listed (now (code .entry)) (now (starts .entry))) ⌝ }
+{
+    let n = starts.len();
+    if n % 2 == 1 {
+        return false;
+    }
+    let half = n / 2;
+    let mut k = 0;
+    while k < half {
+        let o = starts[2 * k];
+        let d = starts[2 * k + 1];
+        if 65535 < d {
+            return false;
+        }
+        let ok = is_place(code, index(o));
+        if ok {
+            k += 1;
+        } else {
+            return false;
+        }
+    }
+    true
+}
+
+// Marks each place with 65,537.
+pub fn mark(code: &[u8], cells: &mut [u32])
+    requires { ⌜ (length (now cells) ≡ suc (length (now code))) × ((o : ℕ) → cell (now cells) o ≡ 65536) × NoFault (now code) ⌝ }
+    ensures { λ _. ⌜ (length (now (cells .exit)) ≡ length (now (cells .entry))) × Marked (now (code .entry)) (now (cells .exit)) ⌝ }
+{
+    let mut at = 0;
+    loop {
+        cells[at] = 65537;
+        let got = decoder::flow_at(code, at);
+        let Flowing::Op(f) = got else {
+            return;
+        };
+        let size = f.size;
+        at += size;
+    }
+}
