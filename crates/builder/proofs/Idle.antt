@@ -1,0 +1,155 @@
+-- Nothing is done in dead code alone: a plan that does nothing says that the code is dead, or the label is.
+-- Assumes nothing.
+use mathlib.Core.Path.{_≡_, refl}
+use mathlib.Core.Bool.{Bool, true, false}
+use mathlib.Core.List.{List}
+use Prim.Native.Nat.{ℕ, _-_}
+use native.Mathlib.Omega.{arith}
+use lib.Dec.{leb, eqb}
+use lib.ListN.{length}
+use Rattle.op.specs.Opcodes.{known}
+use Rattle.op.specs.Depths.{afterOf, takenDepthOf}
+use Rattle.op.specs.declared.After.{After}
+use Rattle.op.specs.declared.After.the-variants as A
+use Rattle.op.specs.declared.Operand.{Operand}
+use Rattle.op.specs.declared.Refusal.{Refusal}
+use Rattle.op.specs.declared.Refusal.the-variants.{UnknownOpcode, WrongShape, JumpTooFar, TooManyKeywords, NameTooLarge, DepthsDiffer, Full, Unsound}
+use Rattle.op.specs.declared.Table.the-variants.{Code, Locations, Marks}
+use Rattle.op.specs.Shapes.{operandShape, sizeOf}
+use Rattle.code.specs.Decode.{namesIn}
+use Rattle.builder.specs.declared.Core.{Core}
+use Rattle.builder.specs.declared.Depth.{Depth}
+use Rattle.builder.specs.declared.Depth.the-variants.{Dead, Live}
+use Rattle.builder.specs.declared.JumpTarget.{JumpTarget}
+use Rattle.builder.specs.declared.JumpTarget.the-variants as T
+use Rattle.builder.specs.declared.Location.{Location}
+use Rattle.builder.specs.declared.Mark.{Mark}
+use Rattle.builder.specs.declared.Mark.the-variants.{Absent, Open, Patched, Target}
+use Rattle.builder.specs.declared.Plan.{Plan}
+use Rattle.builder.specs.declared.Plan.the-variants.{Idle, Refuse, Go}
+use Rattle.builder.specs.Tables.{codeLimit, wordMax, markCells, rowsIn, rowFree}
+use Rattle.builder.specs.Plan.{guard, soundOf, behind, roomOf, fallenOf, liveOf, depthOf, planOf, rowFits}
+use Rattle.builder.specs.Marks.{targetMark, markSound, meets, revived, bits, near}
+use Rattle.builder.specs.Jumps.{unpatched, jumpBy, jumpPlanOf, alsoMark, takenPlan, jumpDepth}
+use Rattle.builder.specs.Jumps.{spotOf, aimOf, toLiveOf, toDepth, toPlanOf}
+use Rattle.builder.specs.Patch.{openPlan, markPlanOf}
+
+never : {B : Type 0} {r : Refusal} → Refuse r ≡ Idle → B
+never e = let z : _≡_ {A = ℕ} 0 1 = cc in absurd (omega arith)
+
+go-busy : (s w : ℕ) (a : Depth) → Go s a w ≡ Idle → ⊥
+go-busy s w a e = let z : _≡_ {A = ℕ} 0 1 = cc in omega arith
+
+guard-idle : (t : Bool) (r : Refusal) (p : Plan) → guard t r p ≡ Idle → p ≡ Idle
+guard-idle true r p e = e
+guard-idle false r p e = never e
+
+module _ (c : Core) (l : Location) (cl ll : ℕ) where
+  by-fallen : (k size word : ℕ) (x : After) → fallenOf x c l k size word cl ll ≡ Idle → ⊥
+  unfolding roomOf
+  by-fallen k size word (A.Refused r) e = never e
+  by-fallen k size word (A.Depth d) e =
+      let p3 : Plan = Go size (behind k d) word in
+      let p2 : Plan = guard (rowFits l (c .locations) ll) (Full Locations) p3 in
+      let p1 : Plan = guard (leb size (codeLimit - c .code)) (Full Code) p2 in
+      go-busy size word (behind k d)
+      (guard-idle (rowFits l (c .locations) ll) (Full Locations) p3
+      (guard-idle (leb size (codeLimit - c .code)) (Full Code) p2
+      (guard-idle (leb size (cl - c .code)) (Full Code) p1 e)))
+
+  live-busy : (d k : ℕ) (o : Operand) (n word : ℕ) → liveOf c l d k o n word cl ll ≡ Idle → ⊥
+  unfolding liveOf
+  live-busy d k o n word e =
+      let p2 : Plan = fallenOf (afterOf d k o) c l k (sizeOf (operandShape o) n) word cl ll in
+      by-fallen k (sizeOf (operandShape o) n) word (afterOf d k o)
+      (guard-idle (eqb (namesIn o) n) WrongShape p2
+      (guard-idle (leb n 255) TooManyKeywords (guard (eqb (namesIn o) n) WrongShape p2) e))
+
+pub plan-idle : (c : Core) (l : Location) (k name : ℕ) (o : Operand) (n cl ll : ℕ) → planOf c l k name o n cl ll ≡ Idle → c .depth ≡ Dead
+unfolding planOf
+plan-idle c l k name o n cl ll e =
+    let p3 : Plan = depthOf (c .depth) c l k o n cl ll in
+    let p2 : Plan = guard (leb name wordMax) NameTooLarge p3 in
+    go (c .depth) refl
+    (guard-idle (leb name wordMax) NameTooLarge p3
+    (guard-idle (known k) UnknownOpcode p2
+    (guard-idle (soundOf c cl ll) Unsound (guard (known k) UnknownOpcode p2) e)))
+  where
+    go : (x : Depth) → c .depth ≡ x → depthOf x c l k o n cl ll ≡ Idle → c .depth ≡ Dead
+    go Dead q e = q
+    go (Live d) q e = absurd (live-busy c l cl ll d k o n 0 e)
+
+pub jump-idle : (c : Core) (l : Location) (k cl ll ml : ℕ) → jumpPlanOf c l k cl ll ml ≡ Idle → c .depth ≡ Dead
+unfolding jumpPlanOf
+jump-idle c l k cl ll ml e =
+    let p3 : Plan = jumpDepth (c .depth) c l k cl ll ml in
+    let p2 : Plan = guard (known k) UnknownOpcode p3 in
+    go (c .depth) refl
+    (guard-idle (known k) UnknownOpcode p3
+    (guard-idle (rowsIn markCells (c .marks) ml) Unsound p2
+    (guard-idle (soundOf c cl ll) Unsound (guard (rowsIn markCells (c .marks) ml) Unsound p2) e)))
+  where
+    also : (p : Plan) → alsoMark p (c .marks) ml ≡ Idle → p ≡ Idle
+    also Idle e = refl
+    also (Refuse r) e = never e
+    also (Go s a w) e = guard-idle (rowFree markCells (c .marks) ml) (Full Marks) (Go s a w) e
+
+    arrives : (d : ℕ) (x : After) → takenPlan x c l d k cl ll ml ≡ Idle → ⊥
+    arrives d (A.Refused r) e = never e
+    arrives d (A.Depth t) e = live-busy c l cl ll d k unpatched 0 t (also (liveOf c l d k unpatched 0 t cl ll) e)
+
+    go : (x : Depth) → c .depth ≡ x → jumpDepth x c l k cl ll ml ≡ Idle → c .depth ≡ Dead
+    go Dead q e = q
+    go (Live d) q e = absurd (arrives d (takenDepthOf d k) e)
+
+pub to-idle : (c : Core) (l : Location) (k : ℕ) (t : JumpTarget) (cl ll : ℕ) (marks : List ℕ) → toPlanOf c l k t cl ll marks ≡ Idle → c .depth ≡ Dead
+unfolding toPlanOf toLiveOf
+to-idle c l k t cl ll marks e =
+    let m = targetMark t (c .marks) marks in
+    let p4 : Plan = toDepth (c .depth) t m c l k cl ll in
+    let p3 : Plan = guard (known k) UnknownOpcode p4 in
+    let p2 : Plan = guard (markSound (c .code) m) Unsound p3 in
+    go (c .depth) refl
+    (guard-idle (known k) UnknownOpcode p4
+    (guard-idle (markSound (c .code) m) Unsound p3
+    (guard-idle (rowsIn markCells (c .marks) (length marks)) Unsound p2
+    (guard-idle (soundOf c cl ll) Unsound (guard (rowsIn markCells (c .marks) (length marks)) Unsound p2) e))))
+  where
+    at : (d f : ℕ) (m : Mark) → spotOf m f c l d k cl ll ≡ Idle → ⊥
+    at d f Absent e = never e
+    at d f (Open o x) e = never e
+    at d f (Patched o x) e = never e
+    at d f (Target o x) e =
+        let p : Plan = liveOf c l d k (jumpBy (bits (c .code) o)) 0 (bits (c .code) o) cl ll in
+        live-busy c l cl ll d k (jumpBy (bits (c .code) o)) 0 (bits (c .code) o)
+        (guard-idle (near (c .code) o) JumpTooFar p (guard-idle (eqb f x) DepthsDiffer (guard (near (c .code) o) JumpTooFar p) e))
+
+    aims : (d f : ℕ) (t : JumpTarget) (m : Mark) → aimOf t m f c l d k cl ll ≡ Idle → ⊥
+    aims d f T.Dead m e = never e
+    aims d f (T.Row i) m e = at d f m e
+
+    arrives : (d : ℕ) (x : After) (m : Mark) → toLiveOf x t m c l d k cl ll ≡ Idle → ⊥
+    arrives d (A.Refused r) m e = never e
+    arrives d (A.Depth f) m e = aims d f t m e
+
+    go : (x : Depth) → c .depth ≡ x → toDepth x t (targetMark t (c .marks) marks) c l k cl ll ≡ Idle → c .depth ≡ Dead
+    go Dead q e = q
+    go (Live d) q e = absurd (arrives d (takenDepthOf d k) (targetMark t (c .marks) marks) e)
+
+-- a label that is Dead has nothing to patch, and a mark is never idle
+pub guard-never : (t : Bool) (r : Refusal) (s w : ℕ) (a : Depth) → guard t r Idle ≡ Go s a w → ⊥
+guard-never true r s w a e = let z : _≡_ {A = ℕ} 0 1 = cc in omega arith
+guard-never false r s w a e = let z : _≡_ {A = ℕ} 0 1 = cc in omega arith
+
+pub mark-busy : (m : Mark) (c : Core) → markPlanOf m c ≡ Idle → ⊥
+unfolding markPlanOf
+mark-busy m c e = go m (guard-idle (markSound (c .code) m) Unsound (openPlan m c) e)
+  where
+    go : (m : Mark) → openPlan m c ≡ Idle → ⊥
+    go Absent e = never e
+    go (Target o d) e = never e
+    go (Patched o d) e = never e
+    go (Open o d) e =
+        let p : Plan = Go o (revived (c .depth) d) (bits o (c .code)) in
+        go-busy o (bits o (c .code)) (revived (c .depth) d)
+        (guard-idle (near o (c .code)) JumpTooFar p (guard-idle (meets (c .depth) d) DepthsDiffer (guard (near o (c .code)) JumpTooFar p) e))

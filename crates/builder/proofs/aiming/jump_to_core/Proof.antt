@@ -1,0 +1,74 @@
+-- `builder::aiming::jump_to_core` meets its contract: each plan is what the model says.
+-- Assumes nothing.
+use Rattle.builder.proofs.JumpPlans.{jumped-to, to-writes}
+use Rattle.builder.specs.Tables.{put}
+use Rattle.builder.specs.declared.Plan.the-variants.{Go, Idle, Refuse}
+use Rattle.code.specs.Encode.{encode}
+use borrow.Author.Needs.{needs}
+use mathlib.Core.List.{[]}
+use mathlib.Core.Path.{_∙_, ap, sym}
+use mir.Syntax.{w16}
+use mir.Facts.{toZ-ofZ}
+use lib.IntN.{ℤ}
+use Rattle.op.specs.declared.Operand.the-variants.{Offset}
+use Rattle.builder.proofs.aiming.jump_to_core.Statement.{statement}
+use Rattle.builder.proofs.aiming.jump_to_core.Tie as tie
+
+decide-to-requires : tie.Need-decide-to-requires
+decide-to-requires c κs = search needs
+
+enum-told : tie.Need-enum-told
+enum-told c = search needs
+
+enum-known-plan : tie.Need-enum-known-plan
+enum-known-plan c = search needs
+
+enum-known-plan-2 : tie.Need-enum-known-plan-2
+enum-known-plan-2 c = search needs
+
+to-i16-requires : tie.Need-to-i16-requires
+to-i16-requires c κs = search needs
+
+slice-aggregate-commit : tie.Need-slice-aggregate-commit
+slice-aggregate-commit c = search needs
+
+commit-requires : tie.Need-commit-requires
+commit-requires c κs =
+    let a = c .before .before .before .before .before .before .before .before .before .before .before .args in
+    to-writes (a .core) (a .location) (a .opcode) (a .target) _ _ (a .marks .now) _ _ _ _ (toZ-ofZ {w = w16} (record { sfits = c .before .before .before .to-i16 .ok }) ∙ c .before .before .before .to-i16 .ensures) (sym (c .before .before .before .before .before .before .before .decide-to .ensures) ∙ c .before .before .before .before .before .plan2 .given .1)
+
+returns : tie.Need-returns
+returns c = let a = c .before .before .before .before .before .before .args in jumped-to (a .core) (a .location) (a .opcode) (a .target) (a .code .now) (a .locations .now) (a .marks .now) Idle (sym (c .before .before .decide-to .ensures) ∙ c .enum-told .given .1)
+
+returns-2 : tie.Need-returns-2
+returns-2 c = let a = c .before .before .before .before .before .before .before .args in jumped-to (a .core) (a .location) (a .opcode) (a .target) (a .code .now) (a .locations .now) (a .marks .now) (Refuse (c .before .plan .given .0 .0)) (sym (c .before .before .before .decide-to .ensures) ∙ c .before .plan .given .1)
+
+same-length : tie.Need-same-length
+same-length c = search needs
+
+same-length-2 : tie.Need-same-length-2
+same-length-2 c = search needs
+
+returns-3 : tie.Need-returns-3
+returns-3 c =
+    let a = c .before .before .before .before .before .before .before .before .before .before .before .before .before .before .before .before .args in
+    let w = c .before .before .before .before .commit .ensures in
+    let e = w .bytes ∙ ap (λ (z : ℤ). put (a .core .code) (encode (a .opcode) (Offset z) []) (a .code .now)) (toZ-ofZ {w = w16} (record { sfits = c .before .before .before .before .before .before .before .before .to-i16 .ok }) ∙ c .before .before .before .before .before .before .before .before .to-i16 .ensures) in
+    rw (w .state, e, w .rows) (jumped-to (a .core) (a .location) (a .opcode) (a .target) (a .code .now) (a .locations .now) (a .marks .now) (Go _ _ _) (sym (c .before .before .before .before .before .before .before .before .before .before .before .before .decide-to .ensures) ∙ c .before .before .before .before .before .before .before .before .before .before .plan2 .given .1))
+
+pub jump-to-core-spec : {M : Type 1} → statement M
+jump-to-core-spec =
+    tie.close
+    (tie.spec
+    decide-to-requires
+    enum-told
+    enum-known-plan
+    enum-known-plan-2
+    to-i16-requires
+    slice-aggregate-commit
+    commit-requires
+    returns
+    returns-2
+    same-length
+    same-length-2
+    returns-3)

@@ -1,0 +1,63 @@
+-- `builder::emitting::commit` meets its contract: the writer's promise of the lent code, and the location's row.
+-- Assumes nothing.
+use Prim.Native.Nat.{_+_, _≤_}
+use Rattle.builder.proofs.Emitted.{written-put}
+use Rattle.code.proofs.Inverse.{length-encode}
+use Rattle.code.specs.Encode.{encode}
+use borrow.Author.Needs.{needs}
+use lib.ListN.{length}
+use mathlib.Core.Path.{refl}
+use native.Mathlib.Omega.{arith}
+use Rattle.builder.proofs.emitting.commit.Statement.{statement}
+use Rattle.builder.proofs.emitting.commit.Tie as tie
+
+sub-write : tie.Need-sub-write
+sub-write c = search needs
+
+part-write-start : tie.Need-part-write-start
+part-write-start c = search needs
+
+part-write-end : tie.Need-part-write-end
+part-write-end c = search needs
+
+write-requires : tie.Need-write-requires
+write-requires c κs = search needs
+
+write-location-requires : tie.Need-write-location-requires
+write-location-requires c κs = search needs
+
+add-t14 : tie.Need-add-t14
+add-t14 c = search needs
+
+same-length : tie.Need-same-length
+same-length c = search needs
+
+same-length-2 : tie.Need-same-length-2
+same-length-2 c = search needs
+
+returns : tie.Need-returns
+returns c =
+    let a = c .before .before .before .before .before .before .before .before .before .before .before .args in
+    let p = c .before .before .before .before .before .before .before .before .before .before .before .pre in
+    let w = c .before .before .write-location in
+    let z = length-encode (a .opcode) (a .operand) (a .kwnames .now) (p .count) in
+    let h : a .core .code + length (encode (a .opcode) (a .operand) (a .kwnames .now)) ≤ length (a .code .now) = omega (arith, z, p .size, p .code, p .sound .code) in
+    record {
+      state = rw (w .ensures .0) refl;
+      bytes = written-put (a .opcode) (a .operand) (a .kwnames .now) (a .code .now) (a .core .code) (a .size) _ _ (c .before .before .before .before .before .before .write .ensures) (p .written) h;
+      rows = w .ensures .1;
+    }
+
+pub commit-spec : {M : Type 1} → statement M
+commit-spec =
+    tie.close
+    (tie.spec
+    sub-write
+    part-write-start
+    part-write-end
+    write-requires
+    write-location-requires
+    add-t14
+    same-length
+    same-length-2
+    returns)

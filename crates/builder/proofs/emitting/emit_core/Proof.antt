@@ -1,0 +1,57 @@
+-- `builder::emitting::emit_core` meets its contract: each plan is what the model says.
+-- Assumes nothing.
+use Rattle.builder.proofs.Emitted.{emitted}
+use Rattle.builder.proofs.Plans.{goes}
+use Rattle.builder.specs.declared.Plan.the-variants.{Go, Idle, Refuse}
+use borrow.Author.Needs.{needs}
+use mathlib.Core.Path.{_∙_, sym}
+use Rattle.builder.proofs.emitting.emit_core.Statement.{statement}
+use Rattle.builder.proofs.emitting.emit_core.Tie as tie
+
+decide-requires : tie.Need-decide-requires
+decide-requires c κs = search needs
+
+enum-told : tie.Need-enum-told
+enum-told c = search needs
+
+enum-known-plan : tie.Need-enum-known-plan
+enum-known-plan c = search needs
+
+enum-known-plan-2 : tie.Need-enum-known-plan-2
+enum-known-plan-2 c = search needs
+
+commit-requires : tie.Need-commit-requires
+commit-requires c κs = goes _ _ (c .before .before .before .before .before .before .before .before .before .args .opcode) (c .before .before .before .before .before .before .before .before .before .args .name) _ _ _ _ _ _ _ (sym (c .before .before .before .before .before .decide .ensures) ∙ c .before .before .before .plan2 .given .1)
+
+returns : tie.Need-returns
+returns c = let a = c .before .before .before .before .before .before .args in emitted (a .core) (a .location) (a .opcode) (a .name) (a .operand) (a .kwnames .now) (a .code .now) (a .locations .now) Idle (sym (c .before .before .decide .ensures) ∙ c .enum-told .given .1)
+
+returns-2 : tie.Need-returns-2
+returns-2 c = let a = c .before .before .before .before .before .before .before .args in emitted (a .core) (a .location) (a .opcode) (a .name) (a .operand) (a .kwnames .now) (a .code .now) (a .locations .now) (Refuse (c .before .plan .given .0 .0)) (sym (c .before .before .before .decide .ensures) ∙ c .before .plan .given .1)
+
+same-length : tie.Need-same-length
+same-length c = search needs
+
+same-length-2 : tie.Need-same-length-2
+same-length-2 c = search needs
+
+returns-3 : tie.Need-returns-3
+returns-3 c =
+    let a = c .before .before .before .before .before .before .before .before .before .before .before .before .before .before .args in
+    let w = c .before .before .before .before .commit .ensures in
+    rw (w .state, w .bytes, w .rows) (emitted (a .core) (a .location) (a .opcode) (a .name) (a .operand) (a .kwnames .now) (a .code .now) (a .locations .now) (Go _ _ _) (sym (c .before .before .before .before .before .before .before .before .before .before .decide .ensures) ∙ c .before .before .before .before .before .before .before .before .plan2 .given .1))
+
+pub emit-core-spec : {M : Type 1} → statement M
+emit-core-spec =
+    tie.close
+    (tie.spec
+    decide-requires
+    enum-told
+    enum-known-plan
+    enum-known-plan-2
+    commit-requires
+    returns
+    returns-2
+    same-length
+    same-length-2
+    returns-3)

@@ -1,0 +1,25 @@
+-- `builder::instructions::emit_call_function_kw` meets its contract: the helper's promise, at the count's byte.
+-- Assumes nothing.
+use borrow.Author.Needs.{needs}
+use Rattle.builder.proofs.instructions.emit_call_function_kw.Statement.{statement}
+use Rattle.builder.proofs.instructions.emit_call_function_kw.Tie as tie
+
+count-byte-requires : tie.Need-count-byte-requires
+count-byte-requires c κs = search needs
+
+emit-with-operand-requires : tie.Need-emit-with-operand-requires
+emit-with-operand-requires c κs = search needs
+
+same-length : tie.Need-same-length
+same-length c = search needs
+
+same-length-2 : tie.Need-same-length-2
+same-length-2 c = search needs
+
+returns : tie.Need-returns
+returns c = rw (c .before .before .before .before .before .before .before .count-byte .ensures) at (c .before .before .before .before .emit-with-operand .ensures)
+
+pub emit-call-function-kw-spec : {M : Type 1} → statement M
+emit-call-function-kw-spec =
+    tie.close
+    (tie.spec count-byte-requires emit-with-operand-requires same-length same-length-2 returns)

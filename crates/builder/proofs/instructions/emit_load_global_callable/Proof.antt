@@ -1,0 +1,34 @@
+-- `builder::instructions::emit_load_global_callable` meets its contract: the helper's promise, at the name's word.
+-- Assumes nothing.
+use borrow.Author.Needs.{needs}
+use Rattle.builder.proofs.instructions.emit_load_global_callable.Statement.{statement}
+use Rattle.builder.proofs.instructions.emit_load_global_callable.Tie as tie
+
+name-word-requires : tie.Need-name-word-requires
+name-word-requires c κs = search needs
+
+slice-aggregate-emit-with-operand : tie.Need-slice-aggregate-emit-with-operand
+slice-aggregate-emit-with-operand c = search needs
+
+emit-with-operand-requires : tie.Need-emit-with-operand-requires
+emit-with-operand-requires c κs = search needs
+
+same-length : tie.Need-same-length
+same-length c = search needs
+
+same-length-2 : tie.Need-same-length-2
+same-length-2 c = search needs
+
+returns : tie.Need-returns
+returns c = rw (c .before .before .before .before .before .before .before .before .name-word .ensures) at (c .before .before .before .before .emit-with-operand .ensures)
+
+pub emit-load-global-callable-spec : {M : Type 1} → statement M
+emit-load-global-callable-spec =
+    tie.close
+    (tie.spec
+    name-word-requires
+    slice-aggregate-emit-with-operand
+    emit-with-operand-requires
+    same-length
+    same-length-2
+    returns)

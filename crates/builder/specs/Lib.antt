@@ -1,0 +1,8 @@
+pub mod Tables
+pub mod Plan
+pub mod Emit
+pub mod Marks
+pub mod Jumps
+pub mod Patch
+pub mod Calls
+pub mod View

@@ -1,0 +1,164 @@
+// Deciding and writing a jump to a target.
+ghost use Prim.Native.Nat.{_<_, _/_};
+ghost use Rattle.builder.specs.Emit.{coreOutcome};
+ghost use Rattle.builder.specs.Jumps.{spotOf, toLiveOf, toPlanOf, jumpToCore};
+ghost use Rattle.builder.specs.Plan.{Sound};
+ghost use Rattle.op.specs.Depths.{takenDepthOf};
+ghost use mathlib.Core.Path.{_≡_};
+use crate::Core;
+use crate::CoreAnswer;
+use crate::Depth;
+use crate::JumpTarget;
+use crate::Location;
+use crate::MARK_CELLS;
+use crate::Mark;
+use crate::Plan;
+use crate::deciding;
+use crate::emitting;
+use crate::marking;
+use code::signs;
+use op::After;
+use op::Operand;
+use op::Refusal;
+use op::depths;
+use op::opcodes;
+
+// What is decided of a jump that arrives at a used mark with depth `e`.
+fn decide_spot(
+    mark: Mark,
+    e: u16,
+    core: Core,
+    location: Location,
+    d: u16,
+    opcode: u8,
+    cl: usize,
+    ll: usize,
+) -> Plan
+    requires { ⌜ Sound core cl ll ⌝ }
+    ensures { λ r. ⌜ r ≡ spotOf mark e core location d opcode cl ll ⌝ }
+{
+    match mark {
+        Mark::Absent => Plan::Refuse(Refusal::NoSuchMark),
+        Mark::Open(_, _) => Plan::Refuse(Refusal::NoSuchMark),
+        Mark::Patched(_, _) => Plan::Refuse(Refusal::NoSuchMark),
+        Mark::Target(offset, depth) => {
+            if e as u32 != depth {
+                return Plan::Refuse(Refusal::DepthsDiffer);
+            }
+            if !marking::is_near(core.code, offset as usize) {
+                return Plan::Refuse(Refusal::JumpTooFar);
+            }
+            let word = marking::bits_of(core.code, offset as usize);
+            deciding::decide_live(
+                core,
+                location,
+                d,
+                opcode,
+                Operand::Offset(signs::to_i16(word)),
+                0,
+                word,
+                cl,
+                ll,
+            )
+        }
+    }
+}
+
+// What is decided of a jump to a target in live code, at depth `d`.
+fn decide_to_live(
+    target: JumpTarget,
+    mark: Mark,
+    core: Core,
+    location: Location,
+    d: u16,
+    opcode: u8,
+    cl: usize,
+    ll: usize,
+) -> Plan
+    requires { ⌜ Sound core cl ll ⌝ }
+    ensures { λ r. ⌜ r ≡ toLiveOf (takenDepthOf d opcode) target mark core location d opcode cl ll ⌝ }
+{
+    let taken = depths::taken(d, opcode);
+    match taken {
+        After::Refused(refusal) => Plan::Refuse(refusal),
+        After::Depth(e) => {
+            let JumpTarget::Row(_) = target else {
+                return Plan::Refuse(Refusal::DeadTarget);
+            };
+            decide_spot(mark, e, core, location, d, opcode, cl, ll)
+        }
+    }
+}
+
+// What a jump to a target is to do.
+fn decide_to(
+    core: Core,
+    location: Location,
+    opcode: u8,
+    target: JumpTarget,
+    cl: usize,
+    ll: usize,
+    marks: &[u32],
+) -> Plan
+    ensures { λ r. ⌜ r ≡ toPlanOf core location opcode target cl ll (now (marks .entry)) ⌝ }
+{
+    if !deciding::sound(core, cl, ll) {
+        return Plan::Refuse(Refusal::Unsound);
+    }
+    if marks.len() / MARK_CELLS < core.marks {
+        return Plan::Refuse(Refusal::Unsound);
+    }
+    let mark = marking::target_mark(target, core.marks, marks);
+    if !marking::mark_sound(core.code, mark) {
+        return Plan::Refuse(Refusal::Unsound);
+    }
+    if opcodes::LAST < opcode {
+        return Plan::Refuse(Refusal::UnknownOpcode);
+    }
+    let depth = core.depth;
+    let Depth::Live(d) = depth else {
+        return Plan::Idle;
+    };
+    decide_to_live(target, mark, core, location, d, opcode, cl, ll)
+}
+
+// A jump to a target, on the core.
+pub fn jump_to_core(
+    core: Core,
+    location: Location,
+    opcode: u8,
+    target: JumpTarget,
+    code: &mut [u8],
+    locations: &mut [u32],
+    marks: &[u32],
+) -> CoreAnswer
+    ensures { λ r. ⌜ coreOutcome r (now (code .exit)) (now (locations .exit)) ≡ jumpToCore core location opcode target (now (code .entry)) (now (locations .entry)) (now (marks .entry)) ⌝ }
+{
+    let plan = decide_to(
+        core,
+        location,
+        opcode,
+        target,
+        code.len(),
+        locations.len(),
+        marks,
+    );
+    match plan {
+        Plan::Idle => CoreAnswer::Accepted(core),
+        Plan::Refuse(refusal) => CoreAnswer::Refused(refusal),
+        Plan::Go(size, after, word) => {
+            let none: [u16; 0] = [];
+            CoreAnswer::Accepted(emitting::commit(
+                core,
+                location,
+                opcode,
+                Operand::Offset(signs::to_i16(word)),
+                &none,
+                size,
+                after,
+                code,
+                locations,
+            ))
+        }
+    }
+}

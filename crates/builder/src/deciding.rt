@@ -1,0 +1,131 @@
+// Deciding an emission, on numbers alone, in the order of document 01's line "Emitting calls".
+ghost use mathlib.Core.Path.{_≡_};
+ghost use Rattle.builder.specs.Plan.{soundOf, Sound, behind, roomOf, liveOf, planOf};
+use crate::CODE_LIMIT;
+use crate::Core;
+use crate::Depth;
+use crate::LOCATION_CELLS;
+use crate::Location;
+use crate::Plan;
+use crate::WORD_MAX;
+use code::decoder;
+use op::After;
+use op::Operand;
+use op::Refusal;
+use op::Table;
+use op::depths;
+use op::effects;
+use op::opcodes;
+use op::shapes;
+
+// Whether the counts are within the lent code and locations.
+pub fn sound(core: Core, cl: usize, ll: usize) -> bool
+    ensures { λ r. ⌜ r ≡ soundOf core cl ll ⌝ }
+{
+    if cl < core.code {
+        return false;
+    }
+    if CODE_LIMIT < core.code {
+        return false;
+    }
+    core.locations <= ll / LOCATION_CELLS
+}
+
+// The depth behind an opcode that falls through to `e`.
+fn behind_op(opcode: u8, e: u16) -> Depth
+    ensures { λ r. ⌜ r ≡ behind opcode e ⌝ }
+{
+    if effects::is_dead_maker(opcode) {
+        return Depth::Dead;
+    }
+    Depth::Live(e)
+}
+
+// Whether there is room for so many bytes, and for a location's row.
+fn room(
+    core: Core,
+    location: Location,
+    size: usize,
+    after: Depth,
+    word: u16,
+    cl: usize,
+    ll: usize,
+) -> Plan
+    requires { ⌜ Sound core cl ll ⌝ }
+    ensures { λ r. ⌜ r ≡ roomOf core location size after word cl ll ⌝ }
+{
+    let at = core.code;
+    if cl - at < size {
+        return Plan::Refuse(Refusal::Full(Table::Code));
+    }
+    if CODE_LIMIT - at < size {
+        return Plan::Refuse(Refusal::Full(Table::Code));
+    }
+    if let Location::Set(_, _) = location {
+        if ll / LOCATION_CELLS <= core.locations {
+            return Plan::Refuse(Refusal::Full(Table::Locations));
+        }
+        return Plan::Go(size, after, word);
+    }
+    Plan::Go(size, after, word)
+}
+
+// What is decided in live code, at depth `d`, with `n` keyword names.
+pub fn decide_live(
+    core: Core,
+    location: Location,
+    d: u16,
+    opcode: u8,
+    operand: Operand,
+    n: usize,
+    word: u16,
+    cl: usize,
+    ll: usize,
+) -> Plan
+    requires { ⌜ Sound core cl ll ⌝ }
+    ensures { λ r. ⌜ r ≡ liveOf core location d opcode operand n word cl ll ⌝ }
+{
+    if 255 < n {
+        return Plan::Refuse(Refusal::TooManyKeywords);
+    }
+    if decoder::names_of(operand) != n {
+        return Plan::Refuse(Refusal::WrongShape);
+    }
+    let after = depths::after(d, opcode, operand);
+    match after {
+        After::Depth(e) => {
+            let size = shapes::instruction_size(shapes::of_operand(operand), n as u8);
+            room(core, location, size, behind_op(opcode, e), word, cl, ll)
+        }
+        After::Refused(refusal) => Plan::Refuse(refusal),
+    }
+}
+
+// What an emitting call is to do; `name` is the name in the operand, 0 without one.
+pub fn decide(
+    core: Core,
+    location: Location,
+    opcode: u8,
+    name: u32,
+    operand: Operand,
+    n: usize,
+    cl: usize,
+    ll: usize,
+) -> Plan
+    ensures { λ r. ⌜ r ≡ planOf core location opcode name operand n cl ll ⌝ }
+{
+    if !sound(core, cl, ll) {
+        return Plan::Refuse(Refusal::Unsound);
+    }
+    if opcodes::LAST < opcode {
+        return Plan::Refuse(Refusal::UnknownOpcode);
+    }
+    if WORD_MAX < name {
+        return Plan::Refuse(Refusal::NameTooLarge);
+    }
+    let depth = core.depth;
+    let Depth::Live(d) = depth else {
+        return Plan::Idle;
+    };
+    decide_live(core, location, d, opcode, operand, n, 0, cl, ll)
+}

@@ -1,0 +1,143 @@
+// The one way in which instructions are emitted: decide, then commit.
+ghost use Prim.Native.Nat.{_≤_};
+ghost use Rattle.builder.specs.Emit.{locationRow, locationsAfter, rowsAfter, Committed, coreOutcome, emitCore, outcome, emitNamed};
+ghost use Rattle.builder.specs.Plan.{rowFits, Goes};
+ghost use Rattle.builder.specs.Tables.{codeLimit};
+ghost use Rattle.code.specs.Bytes.{front};
+ghost use lib.ListN.{length};
+ghost use mathlib.Core.Bool.{true};
+ghost use mathlib.Core.Path.{_≡_};
+use crate::Answer;
+use crate::Builder;
+use crate::Core;
+use crate::CoreAnswer;
+use crate::Depth;
+use crate::LOCATION_CELLS;
+use crate::Location;
+use crate::Plan;
+use crate::deciding;
+use crate::states;
+use crate::store;
+use code::CodeRange;
+use code::Focus;
+use code::writer;
+use op::Operand;
+
+// A location's row at the front.
+fn write_row(out: &mut [u32], offset: u32, range: CodeRange, focus: Focus)
+    requires { ⌜ 6 ≤ length (now out) ⌝ }
+    ensures { λ r. ⌜ now (out .exit) ≡ front (locationRow offset range focus) (now (out .entry)) ⌝ }
+{
+    match focus {
+        Focus::Absent => store::row6(out, offset, range.start, range.end, 0, 0, 0),
+        Focus::Present(f) => store::row6(out, offset, range.start, range.end, 1, f.start, f.end),
+    }
+}
+
+// A location's row at the used end, where a location is set; the rows then used.
+fn write_location(location: Location, rows: usize, at: usize, locations: &mut [u32]) -> usize
+    requires { ⌜ (at ≤ codeLimit) × (rowFits location rows (length (now locations)) ≡ true) ⌝ }
+    ensures { λ r. ⌜ (r ≡ rowsAfter location rows) × (now (locations .exit) ≡ locationsAfter location rows at (now (locations .entry))) ⌝ }
+{
+    let Location::Set(range, focus) = location else {
+        return rows;
+    };
+    let base = rows * LOCATION_CELLS;
+    let offset = at as u32;
+    write_row(&mut locations[base..], offset, range, focus);
+    rows + 1
+}
+
+// One instruction and its location's row, at the used ends; the core then.
+pub fn commit(
+    core: Core,
+    location: Location,
+    opcode: u8,
+    operand: Operand,
+    kwnames: &[u16],
+    size: usize,
+    after: Depth,
+    code: &mut [u8],
+    locations: &mut [u32],
+) -> Core
+    requires { ⌜ Goes core location opcode operand (length (now kwnames)) (length (now code)) (length (now locations)) size ⌝ }
+    ensures { λ r. ⌜ Committed core location opcode operand (now (kwnames .entry)) size after (now (code .entry)) (now (locations .entry)) r (now (code .exit)) (now (locations .exit)) ⌝ }
+{
+    let at = core.code;
+    writer::write(&mut code[at..], opcode, operand, kwnames);
+    let rows = write_location(location, core.locations, at, locations);
+    Core {
+        code: at + size,
+        locations: rows,
+        marks: core.marks,
+        depth: after,
+    }
+}
+
+// Emission on the core.
+fn emit_core(
+    core: Core,
+    location: Location,
+    opcode: u8,
+    name: u32,
+    operand: Operand,
+    kwnames: &[u16],
+    code: &mut [u8],
+    locations: &mut [u32],
+) -> CoreAnswer
+    ensures { λ r. ⌜ coreOutcome r (now (code .exit)) (now (locations .exit)) ≡ emitCore core location opcode name operand (now (kwnames .entry)) (now (code .entry)) (now (locations .entry)) ⌝ }
+{
+    let plan = deciding::decide(
+        core,
+        location,
+        opcode,
+        name,
+        operand,
+        kwnames.len(),
+        code.len(),
+        locations.len(),
+    );
+    match plan {
+        Plan::Idle => CoreAnswer::Accepted(core),
+        Plan::Refuse(refusal) => CoreAnswer::Refused(refusal),
+        Plan::Go(size, after, _) => CoreAnswer::Accepted(commit(
+            core,
+            location,
+            opcode,
+            operand,
+            kwnames,
+            size,
+            after,
+            code,
+            locations,
+        )),
+    }
+}
+
+// Emits an instruction, records its location and follows the depth. In dead code nothing changes. `name` is the name in
+// the operand, 0 without one.
+pub fn emit_with_operand(
+    b: Builder,
+    opcode: u8,
+    name: u32,
+    operand: Operand,
+    kwnames: &[u16],
+    code: &mut [u8],
+    locations: &mut [u32],
+) -> Answer
+    ensures { λ r. ⌜ outcome r (now (code .exit)) (now (locations .exit)) ≡ emitNamed b opcode name operand (now (kwnames .entry)) (now (code .entry)) (now (locations .entry)) ⌝ }
+{
+    let core = b.core;
+    let location = b.location;
+    let answer = emit_core(
+        core,
+        location,
+        opcode,
+        name,
+        operand,
+        kwnames,
+        code,
+        locations,
+    );
+    states::answer_by(b, answer)
+}

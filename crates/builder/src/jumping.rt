@@ -1,0 +1,138 @@
+// Deciding and writing a jump forward.
+ghost use Prim.Native.Nat.{_<_, _/_};
+ghost use Rattle.builder.specs.Jumps.{takenPlan, jumpPlanOf, JumpGoes, JumpCommitted, alsoMark};
+ghost use Rattle.builder.specs.Plan.{Sound};
+ghost use Rattle.op.specs.Depths.{takenDepthOf};
+ghost use lib.ListN.{length};
+ghost use mathlib.Core.Path.{_≡_};
+use crate::Core;
+use crate::Depth;
+use crate::Location;
+use crate::MARK_CELLS;
+use crate::Plan;
+use crate::deciding;
+use crate::emitting;
+use crate::marking;
+use crate::store;
+use op::After;
+use op::Operand;
+use op::Refusal;
+use op::Table;
+use op::depths;
+use op::opcodes;
+
+// The same plan, where the marks have room for a row.
+fn also_mark(plan: Plan, rows: usize, ml: usize) -> Plan
+    ensures { λ r. ⌜ r ≡ alsoMark plan rows ml ⌝ }
+{
+    match plan {
+        Plan::Idle => Plan::Idle,
+        Plan::Refuse(refusal) => Plan::Refuse(refusal),
+        Plan::Go(size, after, word) => {
+            if rows < ml / MARK_CELLS {
+                return Plan::Go(size, after, word);
+            }
+            Plan::Refuse(Refusal::Full(Table::Marks))
+        }
+    }
+}
+
+// What is decided of a forward jump in live code, at depth `d`.
+fn decide_jump_live(
+    core: Core,
+    location: Location,
+    d: u16,
+    opcode: u8,
+    cl: usize,
+    ll: usize,
+    ml: usize,
+) -> Plan
+    requires { ⌜ Sound core cl ll ⌝ }
+    ensures { λ r. ⌜ r ≡ takenPlan (takenDepthOf d opcode) core location d opcode cl ll ml ⌝ }
+{
+    let taken = depths::taken(d, opcode);
+    match taken {
+        After::Refused(refusal) => Plan::Refuse(refusal),
+        After::Depth(t) => {
+            let plan = deciding::decide_live(
+                core,
+                location,
+                d,
+                opcode,
+                Operand::Offset(0),
+                0,
+                t,
+                cl,
+                ll,
+            );
+            also_mark(plan, core.marks, ml)
+        }
+    }
+}
+
+// What a forward jump is to do.
+pub fn decide_jump(
+    core: Core,
+    location: Location,
+    opcode: u8,
+    cl: usize,
+    ll: usize,
+    ml: usize,
+) -> Plan
+    ensures { λ r. ⌜ r ≡ jumpPlanOf core location opcode cl ll ml ⌝ }
+{
+    if !deciding::sound(core, cl, ll) {
+        return Plan::Refuse(Refusal::Unsound);
+    }
+    if ml / MARK_CELLS < core.marks {
+        return Plan::Refuse(Refusal::Unsound);
+    }
+    if opcodes::LAST < opcode {
+        return Plan::Refuse(Refusal::UnknownOpcode);
+    }
+    let depth = core.depth;
+    let Depth::Live(d) = depth else {
+        return Plan::Idle;
+    };
+    decide_jump_live(core, location, d, opcode, cl, ll, ml)
+}
+
+// The jump with no displacement yet, its location's row, and its mark; the core then.
+pub fn commit_jump(
+    core: Core,
+    location: Location,
+    opcode: u8,
+    size: usize,
+    after: Depth,
+    t: u16,
+    code: &mut [u8],
+    locations: &mut [u32],
+    marks: &mut [u32],
+) -> Core
+    requires { ⌜ JumpGoes core location opcode (length (now code)) (length (now locations)) (length (now marks)) size ⌝ }
+    ensures { λ r. ⌜ JumpCommitted core location opcode size after t (now (code .entry)) (now (locations .entry)) (now (marks .entry)) r (now (code .exit)) (now (locations .exit)) (now (marks .exit)) ⌝ }
+{
+    let none: [u16; 0] = [];
+    let next = emitting::commit(
+        core,
+        location,
+        opcode,
+        Operand::Offset(0),
+        &none,
+        size,
+        after,
+        code,
+        locations,
+    );
+    let row = core.marks;
+    let at = core.code;
+    let base = row * MARK_CELLS;
+    store::row4(&mut marks[base..], marking::OPEN, at as u32, t as u32, 0);
+    let depth = next.depth;
+    Core {
+        code: next.code,
+        locations: next.locations,
+        marks: row + 1,
+        depth,
+    }
+}

@@ -1,0 +1,126 @@
+// The builder: CodeBuilder of pydantic/monty's builder.rs. The state goes in and comes out by value, the tables are lent, and
+// each call decides before it writes, so that a refusal changes neither.
+use code::CodeRange;
+use code::Focus;
+use op::Refusal;
+
+mod aiming;
+mod deciding;
+pub mod emission;
+mod emitting;
+pub mod entries;
+pub mod instructions;
+mod jumping;
+pub mod jumps;
+mod marking;
+pub mod names;
+pub mod patching;
+pub mod queries;
+pub mod regions;
+mod states;
+mod store;
+
+// How much of the lent code can be used.
+pub const CODE_LIMIT: usize = 1048576;
+
+// How many cells a row has.
+pub const LOCATION_CELLS: usize = 6;
+
+pub const EXCEPTION_CELLS: usize = 6;
+
+pub const MARK_CELLS: usize = 4;
+
+pub const START_CELLS: usize = 2;
+
+// The greatest depth, name and constant index.
+pub const WORD_MAX: u32 = 65535;
+
+// The bytes of a jump.
+pub const JUMP_SIZE: usize = 3;
+
+// The operand stack's depth before the next instruction; none in dead code.
+pub enum Depth {
+    Dead,
+    Live(u16),
+}
+
+// The source location of the instructions to come.
+pub enum Location {
+    Unset,
+    Set(CodeRange, Focus),
+}
+
+// What emission reads and changes: the used rows of code, locations and marks, and the depth.
+pub struct Core {
+    pub code: usize,
+    pub locations: usize,
+    pub marks: usize,
+    pub depth: Depth,
+}
+
+// The state: the used rows of every table, the depth and the location. Nothing of it is trusted.
+pub struct Builder {
+    pub core: Core,
+    pub location: Location,
+    pub exceptions: usize,
+    pub constants: usize,
+    pub names: usize,
+    pub starts: usize,
+}
+
+// A forward jump that waits for `patch_jump`: a row of the marks.
+pub enum JumpLabel {
+    Dead,
+    Row(usize),
+}
+
+// A place to jump back to: a row of the marks.
+pub enum JumpTarget {
+    Dead,
+    Row(usize),
+}
+
+// The state after a call, or why there is none.
+pub enum Answer {
+    Accepted(Builder),
+    Refused(Refusal),
+}
+
+pub enum Jumped {
+    Made(Builder, JumpLabel),
+    Refused(Refusal),
+}
+
+pub enum Targeted {
+    Made(Builder, JumpTarget),
+    Refused(Refusal),
+}
+
+// The state after a constant was added, and its index.
+pub enum Added {
+    Made(Builder, u16),
+    Refused(Refusal),
+}
+
+// The same of the core alone.
+pub enum CoreAnswer {
+    Accepted(Core),
+    Refused(Refusal),
+}
+
+// What a call is to do: nothing, in dead code; refuse; or write.
+pub enum Plan {
+    Idle,
+    Refuse(Refusal),
+    // the size of the instruction, or the offset of the jump to patch; the depth then; and a jump's taken depth or
+    // displacement, 0 elsewhere
+    Go(usize, Depth, u16),
+}
+
+// A used mark with its offset and depth. Absent: the row is not used, or of no kind.
+pub enum Mark {
+    Absent,
+    Open(u32, u32),
+    Patched(u32, u32),
+    Target(u32, u32),
+}

@@ -1,0 +1,112 @@
+// Patching a forward jump once its target is reached.
+ghost use mathlib.Core.Path.{_≡_};
+ghost use Prim.Native.Nat.{_+_, _≤_, _<_, _/_};
+ghost use lib.ListN.{length};
+ghost use Rattle.builder.specs.Tables.{codeLimit, markCells, wordMax, jumpSize};
+ghost use mathlib.Core.Bool.{true};
+ghost use Rattle.builder.specs.Marks.{markSound};
+ghost use Rattle.builder.specs.Patch.{openPlan, markPlanOf, PatchCommitted, patchOutcome, patchJumpOf};
+use crate::Answer;
+use crate::Builder;
+use crate::Core;
+use crate::Depth;
+use crate::JumpLabel;
+use crate::MARK_CELLS;
+use crate::Mark;
+use crate::Plan;
+use crate::marking;
+use crate::states;
+use crate::store;
+use op::Refusal;
+
+// An open label's mark: 11, then 6.
+fn decide_open(core: Core, offset: u32, depth: u32) -> Plan
+    requires { ⌜ (core .code ≤ codeLimit) × (depth ≤ wordMax) ⌝ }
+    ensures { λ r. ⌜ r ≡ openPlan (Mark.Open offset depth) core ⌝ }
+{
+    let here = core.depth;
+    if !marking::meets_depth(here, depth) {
+        return Plan::Refuse(Refusal::DepthsDiffer);
+    }
+    let from = offset as usize;
+    if !marking::is_near(from, core.code) {
+        return Plan::Refuse(Refusal::JumpTooFar);
+    }
+    Plan::Go(
+        from,
+        marking::revive(here, depth as u16),
+        marking::bits_of(from, core.code),
+    )
+}
+
+// A mark that can be, by its kind.
+fn decide_kind(mark: Mark, core: Core) -> Plan
+    requires { ⌜ (core .code ≤ codeLimit) × (markSound (core .code) mark ≡ true) ⌝ }
+    ensures { λ r. ⌜ r ≡ openPlan mark core ⌝ }
+{
+    match mark {
+        Mark::Absent => Plan::Refuse(Refusal::NoSuchMark),
+        Mark::Target(_, _) => Plan::Refuse(Refusal::NoSuchMark),
+        Mark::Patched(_, _) => Plan::Refuse(Refusal::AlreadyPatched),
+        Mark::Open(offset, depth) => decide_open(core, offset, depth),
+    }
+}
+
+// What a patch of this mark is to do.
+fn decide_mark(mark: Mark, core: Core) -> Plan
+    requires { ⌜ core .code ≤ codeLimit ⌝ }
+    ensures { λ r. ⌜ r ≡ markPlanOf mark core ⌝ }
+{
+    if !marking::mark_sound(core.code, mark) {
+        return Plan::Refuse(Refusal::Unsound);
+    }
+    decide_kind(mark, core)
+}
+
+// The displacement behind the opcode, and the mark's new kind; the core then.
+fn commit_patch(
+    core: Core,
+    i: usize,
+    offset: usize,
+    w: u16,
+    after: Depth,
+    code: &mut [u8],
+    marks: &mut [u32],
+) -> Core
+    requires { ⌜ (offset + jumpSize ≤ length (now code)) × (i < length (now marks) / markCells) ⌝ }
+    ensures { λ r. ⌜ PatchCommitted core i offset w after (now (code .entry)) (now (marks .entry)) r (now (code .exit)) (now (marks .exit)) ⌝ }
+{
+    let p = offset + 1;
+    store::put2(&mut code[p..], (w % 256) as u8, (w / 256) as u8);
+    let base = i * MARK_CELLS;
+    marks[base] = marking::PATCHED;
+    Core {
+        code: core.code,
+        locations: core.locations,
+        marks: core.marks,
+        depth: after,
+    }
+}
+
+// Has a label's jump go to where the code now ends. Dead code is live again at the label's depth.
+pub fn patch_jump(b: Builder, label: JumpLabel, code: &mut [u8], marks: &mut [u32]) -> Answer
+    ensures { λ r. ⌜ patchOutcome r (now (code .exit)) (now (marks .exit)) ≡ patchJumpOf b label (now (code .entry)) (now (marks .entry)) ⌝ }
+{
+    let core = b.core;
+    if !marking::counts_sound(core, code.len(), marks.len()) {
+        return Answer::Refused(Refusal::Unsound);
+    }
+    let JumpLabel::Row(i) = label else {
+        return Answer::Accepted(b);
+    };
+    let mark = marking::mark_in(core.marks, marks, i);
+    let plan = decide_mark(mark, core);
+    match plan {
+        Plan::Idle => Answer::Accepted(b),
+        Plan::Refuse(refusal) => Answer::Refused(refusal),
+        Plan::Go(offset, after, w) => {
+            let next = commit_patch(core, i, offset, w, after, code, marks);
+            Answer::Accepted(states::with_core(b, next))
+        }
+    }
+}
