@@ -4,11 +4,5 @@ pub mod Emitted
 pub mod JumpPlans
 pub mod PatchPlans
 pub mod Naming
-pub mod Tabs
-pub mod Idle
-pub mod Moves
-pub mod Views
-pub mod Held
-pub mod Keeping
 pub mod Displacing
-pub mod Examples
+pub mod Numbered

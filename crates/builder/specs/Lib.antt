@@ -5,4 +5,3 @@ pub mod Marks
 pub mod Jumps
 pub mod Patch
 pub mod Calls
-pub mod View

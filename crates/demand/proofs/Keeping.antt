@@ -13,24 +13,23 @@ use Rattle.op.specs.declared.Refusal.the-variants.{TooLarge, NamesHeld, OpenLab
 use Rattle.op.specs.declared.Table.the-variants.{Exceptions, Names, Starts}
 use Rattle.code.specs.Encode.{encode}
 use Rattle.code.specs.declared.HandlerKind.{HandlerKind}
 use Rattle.builder.specs.declared.Added.the-variants as N
 use Rattle.builder.specs.declared.Answer.the-variants.{Accepted, Refused}
 use Rattle.builder.specs.declared.Builder.{Builder}
 use Rattle.builder.specs.declared.Depth.{Depth}
 use Rattle.builder.specs.declared.Depth.the-variants.{Dead, Live}
 use Rattle.builder.specs.declared.JumpLabel.{JumpLabel}
 use Rattle.builder.specs.declared.JumpTarget.{JumpTarget}
 use Rattle.builder.specs.declared.Jumped.the-variants as J
-use Rattle.builder.specs.declared.Location.{Location}
 use Rattle.builder.specs.declared.Plan.{Plan}
 use Rattle.builder.specs.declared.Plan.the-variants.{Idle, Refuse, Go}
 use Rattle.builder.specs.declared.Targeted.the-variants as G
 use Rattle.builder.specs.Tables.{codeLimit, wordMax, exceptionCells, markCells, startCells, rowsIn, rowFree}
 use Rattle.builder.specs.Plan.{planOf}
 use Rattle.builder.specs.Emit.{commitOf, emitCore, outcomeBy, emitNamed}
 use Rattle.builder.specs.Jumps.{jumpPlanOf, commitJump, emitJumpOf, toPlanOf, commitTo, jumpToCore, emitJumpToOf, TargetOutcome, targetAt, targetOf}
 use Rattle.builder.specs.Patch.{patchPlanOf, commitPatch, patchJumpOf}
-use Rattle.builder.specs.Calls.{AddedKept, addConstOf, withConstants, Kept, kept, unless, countsOf, freshAt, offsetsFit, withExceptions, withNames, withLocation, newOf, regionAt, regionOf, addExceptionOf, registerNamesOf, registerNameOf, anyOpen, buildOf}
+use Rattle.builder.specs.Calls.{AddedKept, addConstOf, withConstants, Kept, kept, unless, countsOf, freshAt, offsetsFit, withExceptions, withNames, newOf, regionAt, regionOf, addExceptionOf, registerNamesOf, registerNameOf, anyOpen, buildOf}
 
 -- refused: the tables are as they were
 
@@ -82,7 +81,7 @@ module _ (b : Builder) (r : Refusal) where
     patch-refused e = patch-by (patchPlanOf (b .core) l (length code) marks) e
 
 -- what holds of both choices holds of a choice
-either : {A : Type 0} (P : A → Type 0) (t : Bool) (x y : A) → P x → P y → P (pick t x y)
+pub either : {A : Type 0} (P : A → Type 0) (t : Bool) (x y : A) → P x → P y → P (pick t x y)
 either P true x y p q = p
 either P false x y p q = q
 
@@ -229,8 +228,3 @@ module _ (b : Builder) (value : ℕ) (cells : List ℕ) where
       (λ n i e. made-same (withConstants b (b .constants + 1)) n (b .constants) i refl refl e) (λ n i e. (cc, cc)))
       (λ n i e. (cc, cc)))
       (λ n i e. (cc, cc))
-
--- set_location
-
-pub location-same : (b : Builder) (l : Location) → (withLocation b l .core ≡ b .core) × (withLocation b l .starts ≡ b .starts)
-location-same b l = (refl, refl)

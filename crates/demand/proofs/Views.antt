@@ -15,37 +15,39 @@ use Rattle.op.specs.declared.Refusal.the-variants.{Full, Unsound}
 use Rattle.op.specs.declared.Table.the-variants.{Starts}
 use Rattle.code.specs.Encode.{encode}
 use Rattle.code.proofs.Inverse.{length-encode}
 use Rattle.builder.specs.declared.Answer.the-variants.{Accepted}
 use Rattle.builder.specs.declared.Builder.{Builder}
 use Rattle.builder.specs.declared.Core.{Core}
 use Rattle.builder.specs.declared.Depth.{Depth}
 use Rattle.builder.specs.declared.Depth.the-variants.{Dead, Live}
 use Rattle.builder.specs.declared.JumpLabel.{JumpLabel}
 use Rattle.builder.specs.declared.JumpLabel.the-variants as L
 use Rattle.builder.specs.declared.JumpTarget.{JumpTarget}
 use Rattle.builder.specs.declared.Location.{Location}
 use Rattle.builder.specs.declared.Mark.the-variants.{Open, Target}
 use Rattle.builder.specs.declared.Plan.{Plan}
 use Rattle.builder.specs.declared.Plan.the-variants.{Idle, Refuse, Go}
 use Rattle.builder.specs.Tables.{codeLimit, markCells, startCells, rowsIn, rowFree, put}
 use Rattle.builder.specs.Plan.{guard, planOf}
 use Rattle.builder.specs.Emit.{commitOf, emitCore, outcomeBy, emitNamed}
 use Rattle.builder.specs.Marks.{openKind, targetKind, markAt, markIn, markOf, markable, meets, revived}
 use Rattle.builder.specs.Jumps.{unpatched, jumpBy, jumpPlanOf, commitJump, emitJumpOf}
 use Rattle.builder.specs.Jumps.{toPlanOf, commitTo, jumpToCore, emitJumpToOf}
 use Rattle.builder.specs.Jumps.{targetAt, targetOf}
 use Rattle.builder.specs.Patch.{markPlanOf, patchPlanOf, commitPatch, patchJumpOf}
 use Rattle.builder.specs.Calls.{kept, unless, countsOf, freshAt, newOf, regionAt, regionOf}
-use Rattle.builder.specs.View.{viewOf, born, tab, given, after, givenJump, afterJump, givenTarget, afterTarget, Moved}
-use Rattle.builder.specs.View.{emit, emitJump, emitJumpTo, patchJump, jumpTarget, newRegion}
-use Rattle.builder.specs.View.{refused, dead-emit, dead-jump, dead-to, dead-patch, dead-target, emitted}
+use Rattle.demand.specs.History.{born}
+use Rattle.demand.specs.World.{given, after, givenJump, afterJump, givenTarget, afterTarget}
+use Rattle.demand.proofs.View.{viewOf, tab, Moved}
+use Rattle.demand.specs.History.{emit, emitJump, emitJumpTo, patchJump, jumpTarget, newRegion}
+use Rattle.demand.proofs.View.{refused, dead-emit, dead-jump, dead-to, dead-patch, dead-target, emitted}
 use Rattle.builder.proofs.Putting.{take-put-all}
 use Rattle.builder.proofs.Plans.{LiveGoes, plan-goes}
 use Rattle.builder.proofs.JumpPlans.{mark-used, forward-goes, to-goes}
 use Rattle.builder.proofs.PatchPlans.{markable-true, patch-goes}
-use Rattle.builder.proofs.Tabs.{tab-length, tab-nth, marks-push, marks-patch, starts-push, code-patch}
-use Rattle.builder.proofs.Idle.{guard-never, jump-idle, mark-busy, plan-idle, to-idle}
-use Rattle.builder.proofs.Moves.{jumped-at, labelled-at, opened-at, patched-at, spotted-at}
+use Rattle.demand.proofs.Tabs.{tab-length, tab-nth, marks-push, marks-patch, starts-push, code-patch}
+use Rattle.demand.proofs.Idle.{guard-never, jump-idle, mark-busy, plan-idle, to-idle}
+use Rattle.demand.proofs.Moves.{jumped-at, labelled-at, opened-at, patched-at, spotted-at}
 
 -- emission
 
@@ -219,7 +221,7 @@ module _ (b : Builder) (code marks starts : List ℕ) (within : b .core .code �
 
 -- a new builder
 
-made : (a b : Builder) → Accepted a ≡ Accepted b → a ≡ b
+pub made : (a b : Builder) → Accepted a ≡ Accepted b → a ≡ b
 made a b e = cc
 
 pub new-view : (told : Depth) (code marks starts : List ℕ) (b : Builder) → newOf told starts .answer ≡ Accepted b

@@ -4,7 +4,7 @@ use mathlib.Core.Path.{_≡_, refl, sym, ap, _∙_}
 use mathlib.Core.Bool.{Bool, true, false}
 use mathlib.Core.Logic.{_≢_}
 use mathlib.Core.List.{List, [], _∷_, _++_, append-assoc}
-use mathlib.Core.Option.{Option, some}
+use mathlib.Core.Option.{some}
 use Prim.Native.Nat.{ℕ, zero, suc, _+_, _*_, _/_, _%_, _≤_, _<_}
 use native.Mathlib.Decide.{ℕ-discrete}
 use native.Mathlib.Nat.{add-zero}
@@ -15,27 +15,15 @@ use lib.ListN.{length, take, drop, getD, set, getElem?, length-append, List·get
 use lib.Seq.{set-at, set-append-left, getD-set-same, getD-set-other, getD-append-add, getD-take, length-take-le, sets-eq, take-set-lt}
 use Rattle.op.specs.Choice.{pick}
 use Rattle.code.specs.Bytes.{wordBytes}
 use Rattle.builder.specs.declared.Mark.the-variants.{Absent, Open, Patched, Target}
 use Rattle.builder.specs.Tables.{markCells, startCells, put}
 use Rattle.builder.specs.Marks.{openKind, patchedKind, targetKind, markRow, markOf, markAt}
-use Rattle.builder.specs.View.{tab, startAt}
+use Rattle.demand.proofs.Lists.{nth-left, nth-seam}
+use Rattle.demand.proofs.View.{tab, startAt}
 
 -- the first n values of a function
 
 module _ {A : Type 0} where
-  nth-left : (l r : List A) (i : ℕ) (a : A) → getElem? l i ≡ some a → getElem? (l ++ r) i ≡ some a
-  nth-left [] r i a e = let z : _≡_ {A = Option A} (getElem? [] i) (some a) = e in absurd (none-some i z)
-    where
-      none-some : (i : ℕ) → _≡_ {A = Option A} (getElem? [] i) (some a) → ⊥
-      none-some zero e = let z : _≡_ {A = ℕ} 0 1 = cc in omega arith
-      none-some (suc i) e = let z : _≡_ {A = ℕ} 0 1 = cc in omega arith
-  nth-left (x ∷ l) r zero a e = e
-  nth-left (x ∷ l) r (suc i) a e = nth-left l r i a e
-
-  nth-seam : (l : List A) (a : A) (r : List A) → getElem? (l ++ (a ∷ r)) (length l) ≡ some a
-  nth-seam [] a r = refl
-  nth-seam (x ∷ l) a r = nth-seam l a r
-
   pub tab-length : (n : ℕ) (f : ℕ → A) → length (tab n f) ≡ n
   unfolding tab
   tab-length zero f = refl
@@ -52,7 +40,7 @@ module _ {A : Type 0} where
     where
       go : Dec (k ≡ n) → (k < n → getElem? (tab n f) k ≡ some (f k)) → getElem? (tab n f ++ (f n ∷ [])) k ≡ some (f k)
       go (yes e) ih = rw e (let h = nth-seam (tab n f) (f n) [] in rw (tab-length n f) at h)
-      go (no e) ih = nth-left (tab n f) (f n ∷ []) k (f k) (ih (omega arith))
+      go (no e) ih = nth-left (tab n f) (f n ∷ []) k (ih (omega arith))
   tab-nth zero f k l = absurd (omega arith)
 
   pub tab-set : (n : ℕ) (f g : ℕ → A) (k : ℕ) (v : A) → k < n → g k ≡ v → ((i : ℕ) → i < n → i ≢ k → g i ≡ f i) → tab n g ≡ set (tab n f) k v

@@ -10,19 +10,19 @@ use lib.ListN.{length, set, getElem?}
 use Rattle.op.specs.Depths.{afterOf, takenDepthOf}
 use Rattle.op.specs.declared.After.the-variants as A
 use Rattle.code.specs.Encode.{encode}
 use Rattle.builder.specs.declared.Depth.{Depth}
 use Rattle.builder.specs.declared.Depth.the-variants.{Dead, Live}
 use Rattle.builder.specs.declared.JumpLabel.the-variants as L
 use Rattle.builder.specs.declared.JumpTarget.{JumpTarget}
 use Rattle.builder.specs.declared.JumpTarget.the-variants as T
 use Rattle.builder.specs.declared.Mark.the-variants.{Open, Patched, Target}
 use Rattle.builder.specs.Tables.{wordMax}
 use Rattle.builder.specs.Plan.{behind}
 use Rattle.builder.specs.Marks.{meets, bits, near}
 use Rattle.builder.specs.Jumps.{unpatched, jumpBy}
-use Rattle.builder.specs.View.{View, Moved}
-use Rattle.builder.specs.View.{emitJump, emitJumpTo, patchJump, jumpTarget, newRegion, ok, label, target}
-use Rattle.builder.specs.View.{labelled, jumped, patched, spotted, opened}
+use Rattle.demand.proofs.View.{View, Moved}
+use Rattle.demand.specs.History.{emitJump, emitJumpTo, patchJump, jumpTarget, newRegion, ok, label, target}
+use Rattle.demand.proofs.View.{labelled, jumped, patched, spotted, opened}
 
 module _ (v : View) where
   pub labelled-at : (k d e t n p : ℕ) → length (v .marks) ≡ n → length (v .code) ≡ p → v .depth ≡ Live d → afterOf d k unpatched ≡ A.Depth e

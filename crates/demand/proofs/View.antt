@@ -1,4 +1,4 @@
--- What demand 3 looks at of the state and the lent tables, and how a call moves it.
+-- What the theorem looks at of the state and the lent tables, and how a call moves it.
 -- Assumes nothing.
 use mathlib.Core.Path.{_≡_}
 use mathlib.Core.Bool.{true}
@@ -12,25 +12,19 @@ use Rattle.op.specs.declared.Operand.{Operand}
 use Rattle.op.specs.declared.Refusal.{Refusal}
 use Rattle.code.specs.Decode.{namesIn}
 use Rattle.code.specs.Encode.{encode}
-use Rattle.builder.specs.declared.Answer.{Answer}
-use Rattle.builder.specs.declared.Answer.the-variants as R
 use Rattle.builder.specs.declared.Builder.{Builder}
 use Rattle.builder.specs.declared.Depth.{Depth}
 use Rattle.builder.specs.declared.Depth.the-variants.{Dead, Live}
-use Rattle.builder.specs.declared.JumpLabel.{JumpLabel}
 use Rattle.builder.specs.declared.JumpLabel.the-variants as L
 use Rattle.builder.specs.declared.JumpTarget.{JumpTarget}
 use Rattle.builder.specs.declared.JumpTarget.the-variants as T
-use Rattle.builder.specs.declared.Jumped.{Jumped}
-use Rattle.builder.specs.declared.Jumped.the-variants as J
 use Rattle.builder.specs.declared.Mark.{Mark}
 use Rattle.builder.specs.declared.Mark.the-variants.{Open, Patched, Target}
-use Rattle.builder.specs.declared.Targeted.{Targeted}
-use Rattle.builder.specs.declared.Targeted.the-variants as G
+use Rattle.demand.specs.History.{Call, emit, emitJump, emitJumpTo, patchJump, jumpTarget, newRegion, other, Given, no, ok, label, target}
 use Rattle.builder.specs.Tables.{startCells, wordMax, jumpSize}
 use Rattle.builder.specs.Plan.{behind}
 use Rattle.builder.specs.Marks.{markAt, near, bits, meets}
 use Rattle.builder.specs.Jumps.{unpatched, jumpBy}
 
 -- the first n values of f
 unfoldable pub tab : {A : Type 0} → ℕ → (ℕ → A) → List A
@@ -55,53 +49,6 @@ viewOf b code marks starts = record {
   starts = tab (b .starts) (startAt starts);
   depth = b .core .depth;
 }
-
--- the view of a new builder
-abbrev pub born : Depth → List (ℕ × ℕ)
-born Dead = []
-born (Live d) = (0, d) ∷ []
-
--- the kinds of calls: each emitting call is an instruction with its names; `other` changes nothing of the view
-pub data Call : Type 0 where
-  emit : ℕ → Operand → List ℕ → Call
-  emitJump : ℕ → Call
-  emitJumpTo : ℕ → JumpTarget → Call
-  patchJump : JumpLabel → Call
-  jumpTarget : Call
-  newRegion : ℕ → Call
-  other : Call
-
--- what a call answers
-pub data Given : Type 0 where
-  no : Refusal → Given
-  ok : Given
-  label : JumpLabel → Given
-  target : JumpTarget → Given
-
--- the answers' numbers and the states after them; "A refused builder call leaves state and tables as they were"
-abbrev pub given : Answer → Given
-given (R.Accepted b) = ok
-given (R.Refused r) = no r
-
-abbrev pub after : Answer → Builder → Builder
-after (R.Accepted b) old = b
-after (R.Refused r) old = old
-
-abbrev pub givenJump : Jumped → Given
-givenJump (J.Made b l) = label l
-givenJump (J.Refused r) = no r
-
-abbrev pub afterJump : Jumped → Builder → Builder
-afterJump (J.Made b l) old = b
-afterJump (J.Refused r) old = old
-
-abbrev pub givenTarget : Targeted → Given
-givenTarget (G.Made b t) = target t
-givenTarget (G.Refused r) = no r
-
-abbrev pub afterTarget : Targeted → Builder → Builder
-afterTarget (G.Made b t) old = b
-afterTarget (G.Refused r) old = old
 
 -- how an answered call moves the view: refused, dead, or what was accepted
 pub data Moved (v : View) : Call → Given → View → Type 0 where

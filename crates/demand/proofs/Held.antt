@@ -10,26 +10,26 @@ use Rattle.op.specs.declared.Refusal.the-variants.{Unsound}
 use Rattle.code.specs.Bytes.{wordBytes}
 use Rattle.code.specs.Encode.{encode}
 use Rattle.code.proofs.Inverse.{length-encode}
 use Rattle.builder.specs.declared.Builder.{Builder}
 use Rattle.builder.specs.declared.Depth.{Depth}
 use Rattle.builder.specs.declared.JumpLabel.{JumpLabel}
 use Rattle.builder.specs.declared.JumpLabel.the-variants as L
 use Rattle.builder.specs.declared.JumpTarget.{JumpTarget}
 use Rattle.builder.specs.declared.Plan.{Plan}
 use Rattle.builder.specs.declared.Plan.the-variants.{Idle, Refuse, Go}
 use Rattle.builder.specs.Tables.{put}
 use Rattle.builder.specs.Plan.{planOf}
 use Rattle.builder.specs.Emit.{commitOf, emitCore, outcomeBy, emitNamed}
 use Rattle.builder.specs.Marks.{markIn, markable}
 use Rattle.builder.specs.Jumps.{unpatched, jumpBy, jumpPlanOf, commitJump, emitJumpOf}
 use Rattle.builder.specs.Jumps.{toPlanOf, commitTo, jumpToCore, emitJumpToOf}
 use Rattle.builder.specs.Patch.{markPlanOf, patchPlanOf, commitPatch, patchJumpOf}
-use Rattle.builder.specs.View.{after, afterJump}
+use Rattle.demand.specs.World.{after, afterJump}
 use Rattle.builder.proofs.Putting.{length-put}
 use Rattle.builder.proofs.Plans.{guard-go, LiveGoes, plan-goes}
 use Rattle.builder.proofs.JumpPlans.{forward-goes, to-goes}
 use Rattle.builder.proofs.PatchPlans.{patch-goes}
-use Rattle.builder.proofs.Idle.{guard-never}
+use Rattle.demand.proofs.Idle.{guard-never}
 
 module _ (b : Builder) (k : ℕ) (code locs : List ℕ) (within : b .core .code ≤ length code) where
   put-held : (d : ℕ) (o : Operand) (ns : List ℕ) (word s w : ℕ) (a : Depth) → LiveGoes (b .core) (b .location) d k o (length ns) word (length code) (length locs) s a w

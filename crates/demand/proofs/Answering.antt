@@ -1,0 +1,62 @@
+-- What a check of the bytes and the starts answers and leaves.
+-- Assumes nothing.
+use mathlib.Core.Path.{_≡_, refl, ap, _∙_}
+use mathlib.Core.Logic.{_↔_}
+use mathlib.Core.List.{List, List·Memᴰ as Mem}
+use mathlib.Core.Option.{Option, some, none}
+use Prim.Native.Nat.{ℕ, suc, _≤_, _<_}
+use native.Mathlib.Decide.{decLe}
+use native.Mathlib.Omega.{arith}
+use lib.ListN.{length, drop, getD, List·getD-append}
+use Rattle.code.specs.Depths.{Smallest, Derived}
+use Rattle.code.proofs.Assigning.{smallest-agree}
+use Rattle.code.proofs.Counting.{counts-one}
+use Rattle.builder.specs.Tables.{codeLimit}
+use Rattle.builder.specs.declared.Answer.the-variants.{Accepted}
+use Rattle.checker.specs.Cells.{cell, depthIn}
+use Rattle.checker.specs.Promise.{Promise}
+use Rattle.checker.specs.declared.Checked.{Checked}
+use Rattle.checker.specs.declared.Checked.the-variants as C
+use Rattle.checker.proofs.Holding.{depth-in, in-depth}
+use Rattle.checker.proofs.Promising.{accepted-when}
+use Rattle.demand.specs.Machine.{isa}
+use Rattle.demand.specs.History.{Row, depthAt}
+use Rattle.demand.specs.Demand.{cells, cellOf}
+use Rattle.demand.proofs.Book.{Book, Good}
+use Rattle.demand.proofs.Bytes.{bytesOf, Closed}
+use Rattle.demand.proofs.Machining.{laws}
+use Rattle.demand.proofs.Standing.{code-length, whole}
+use Rattle.demand.proofs.Finish.{depths, assigned, least, derives, listed, counted}
+
+cell-of : (c : List ℕ) (o : ℕ) (x : Option ℕ) → depthIn c o ≡ x → cell c o ≤ 65536 → cell c o ≡ cellOf x
+cell-of c o (some d) e l = in-depth c o d e .0
+cell-of c o none e l = elim (decLe (cell c o) 65535) [
+  | yes h ↦ (let q = depth-in c o (cell c o) refl h in let z : _≡_ {A = ℕ} 0 1 = cc in absurd (omega arith))
+  | no h ↦ omega arith
+]
+
+module _ (b : Book isa) (g : Good isa laws b) (closed : (r : Row isa) → Mem r (b .rows) → Closed isa laws (r .offset) (r .what)) where
+  checked : b .len ≤ codeLimit → (d d′ : List ℕ) (r : Checked) → b .len < length d → Promise (bytesOf isa (b .rows)) (cells (b .starts)) d d′ r
+      → (r ≡ C.Accepted (length (b .rows))) × ((o : ℕ) → o ≤ b .len → cell d′ o ≡ cellOf (depths b g closed o))
+  checked short d d′ r room P =
+      let z : length (bytesOf isa (b .rows)) ≡ b .len = code-length (b .rows) (b .len) (g .chain) closed in
+      let a = accepted-when P (omega arith) (omega arith) (whole (b .rows) (b .len) (g .chain) closed) (listed b g closed) (depths b g closed) (assigned b g closed) in
+      let c = a .cells in
+      let s = a .solution in
+      let same = smallest-agree (s .smallest) (least b g closed) in (
+        a .answer ∙ ap C.Accepted (counts-one same (s .count) (counted b g closed)),
+        λ o l. ap (λ (x : List ℕ). getD x o 65536) (a .became) ∙ List·getD-append c (drop (suc (length (bytesOf isa (b .rows)))) d) 65536 o (omega (arith, s .size, z))
+            ∙ cell-of c o (depths b g closed o) (same o) (s .others o),
+      )
+
+  -- the same of any names for the bytes, the starts' cells and the length
+  module _ (s st : List ℕ) (n : ℕ) (es : s ≡ bytesOf isa (b .rows)) (et : st ≡ cells (b .starts)) (en : n ≡ b .len) where
+    pub smallest-at : Smallest s st (λ o. depthAt isa (b .rows) n (b .cur) o)
+    smallest-at = rw (es, et, en) (least b g closed)
+
+    pub derived-at : (o d : ℕ) → (depthAt isa (b .rows) n (b .cur) o ≡ some d) ↔ Derived s st o d
+    derived-at o d = rw (es, et, en) (derives b g closed o d)
+
+    pub checked-at : b .len ≤ codeLimit → (d d′ : List ℕ) (r : Checked) → n < length d → Promise s st d d′ r
+        → (r ≡ C.Accepted (length (b .rows))) × ((o : ℕ) → o ≤ n → cell d′ o ≡ cellOf (depthAt isa (b .rows) n (b .cur) o))
+    checked-at short = rw (es, et, en) (checked short)

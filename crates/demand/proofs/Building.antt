@@ -1,0 +1,74 @@
+-- What an accepted build says: the code is within its limit, and no label is open, so no jump waits.
+-- Assumes nothing.
+use mathlib.Core.Path.{_≡_, refl}
+use mathlib.Core.Bool.{Bool, true, false, _&&_, _||_}
+use mathlib.Core.Logic.{_⊎_, inl, inr}
+use mathlib.Core.List.{List, [], _∷_}
+use mathlib.Core.Option.{some}
+use Prim.Native.Nat.{ℕ, zero, suc, _+_, _*_, _≤_}
+use native.Mathlib.Omega.{arith}
+use lib.Dec.{leb, eqb}
+use lib.ListN.{length, getD, getElem?}
+use borrow.Author.Tests.{leb-true}
+use Rattle.op.specs.Choice.{pick}
+use Rattle.op.specs.declared.Refusal.the-variants.{OpenLabel, Unsound}
+use Rattle.builder.specs.Calls.{kept, unless, anyOpen, filledNames, buildOf}
+use Rattle.builder.specs.Marks.{openKind, markOf, markAt}
+use Rattle.builder.specs.Tables.{codeLimit, markCells, rowsIn}
+use Rattle.builder.specs.declared.Answer.the-variants.{Accepted, Refused}
+use Rattle.builder.specs.declared.Builder.{Builder}
+use Rattle.builder.specs.declared.Mark.the-variants.{Absent, Open, Patched, Target}
+use Rattle.demand.specs.Machine.{isa}
+use Rattle.demand.specs.History.{waits, to, What, one, leap}
+use Rattle.demand.proofs.Lists.{nth-cases}
+use Rattle.demand.proofs.Book.{WValid}
+use Rattle.demand.proofs.Bytes.{Closed}
+use Rattle.demand.proofs.Machining.{laws}
+use Rattle.demand.proofs.View.{tab}
+
+pub built-facts : (b : Builder) (fill : ℕ) (names marks : List ℕ) (n : Builder) → buildOf b fill names marks .answer ≡ Accepted n
+    → (b .core .code ≤ codeLimit) × (anyOpen (b .core .marks) marks ≡ false)
+unfolding buildOf
+built-facts b fill names marks n e =
+    go (leb (b .core .code) codeLimit) (leb (b .names) (length names) && rowsIn markCells (b .core .marks) (length marks)) (anyOpen (b .core .marks) marks) refl refl e
+  where
+    go : (s t u : Bool) → leb (b .core .code) codeLimit ≡ s → anyOpen (b .core .marks) marks ≡ u
+        → unless (s && t) Unsound names (pick u (kept (Refused OpenLabel) names) (kept (Accepted b) (filledNames (b .names) fill names))) .answer ≡ Accepted n
+        → (b .core .code ≤ codeLimit) × (anyOpen (b .core .marks) marks ≡ false)
+    go true true false p q e = (leb-true (b .core .code) codeLimit p, q)
+    go true true true p q e = absurd (let z : _≡_ {A = ℕ} 0 1 = cc in omega arith)
+    go true false u p q e = absurd (let z : _≡_ {A = ℕ} 0 1 = cc in omega arith)
+    go false t u p q e = absurd (let z : _≡_ {A = ℕ} 0 1 = cc in omega arith)
+
+open-kind : (kind x y o d : ℕ) → markOf kind x y ≡ Open o d → eqb kind openKind ≡ true
+unfolding markOf
+open-kind kind x y o d e = go (eqb kind 1) (eqb kind 2) (eqb kind 3) e
+  where
+    go : (p q r : Bool) → pick p (Open x y) (pick q (Patched x y) (pick r (Target x y) Absent)) ≡ Open o d → p ≡ true
+    go true q r e = refl
+    go false true r e = absurd (let z : _≡_ {A = ℕ} 0 1 = cc in omega arith)
+    go false false true e = absurd (let z : _≡_ {A = ℕ} 0 1 = cc in omega arith)
+    go false false false e = absurd (let z : _≡_ {A = ℕ} 0 1 = cc in omega arith)
+
+or-true : (a : Bool) → (a || true) ≡ true
+or-true true = refl
+or-true false = refl
+
+pub open-any : (n : ℕ) (marks : List ℕ) (k o d : ℕ) → getElem? (tab n (markAt marks)) k ≡ some (Open o d) → anyOpen n marks ≡ true
+unfolding tab anyOpen
+open-any zero marks k o d e = absurd (let z : _≡_ {A = ℕ} 0 1 = cc in omega arith)
+open-any (suc n) marks k o d e = go (nth-cases (tab n (markAt marks)) (markAt marks n ∷ []) k e) (λ (q : getElem? (tab n (markAt marks)) k ≡ some (Open o d)). open-any n marks k o d q)
+  where
+    last : (i : ℕ) → getElem? (markAt marks n ∷ []) i ≡ some (Open o d) → eqb (getD marks (n * markCells) 0) openKind ≡ true
+    last zero q = let m : markAt marks n ≡ Open o d = cc in open-kind (getD marks (n * markCells) 0) (getD marks (n * markCells + 1) 0) (getD marks (n * markCells + 2) 0) o d m
+    last (suc i) q = absurd (let z : _≡_ {A = ℕ} 0 1 = cc in omega arith)
+
+    go : (getElem? (tab n (markAt marks)) k ≡ some (Open o d)) ⊎ ((i : ℕ) × (k ≡ length (tab n (markAt marks)) + i) × (getElem? (markAt marks n ∷ []) i ≡ some (Open o d)))
+        → (getElem? (tab n (markAt marks)) k ≡ some (Open o d) → anyOpen n marks ≡ true) → (anyOpen n marks || eqb (getD marks (n * markCells) 0) openKind) ≡ true
+    go (inl q) ih = rw (ih q) refl
+    go (inr q) ih = rw (last (q .0) (q .2)) (or-true (anyOpen n marks))
+
+pub closed-by : (o : ℕ) (w : What isa) → WValid isa laws o w → ((j k : ℕ) → w ≡ leap j (waits k) → ⊥) → Closed isa laws o w
+closed-by o (one i) v n = v
+closed-by o (leap j (waits k)) v n = absurd (n j k refl)
+closed-by o (leap j (to t)) v n = v

@@ -1,0 +1,57 @@
+-- Rows of a list by number, and members of a mapped list.
+-- Assumes nothing.
+use mathlib.Core.Path.{_≡_, refl, ap}
+use mathlib.Core.Logic.{_⊎_, inl, inr, _≢_}
+use mathlib.Core.List.{List, [], _∷_, _++_, map, List·Memᴰ as Mem, List·Memᴰ·head as mhead, List·Memᴰ·tail as mtail}
+use mathlib.Core.Option.{some}
+use Prim.Native.Nat.{ℕ, zero, suc, _+_, _<_}
+use native.Mathlib.Omega.{arith}
+use lib.ListN.{length, set, getElem?}
+
+module _ {A : Type 0} where
+  pub nth-left : (l m : List A) (k : ℕ) {a : A} → getElem? l k ≡ some a → getElem? (l ++ m) k ≡ some a
+  nth-left [] m k {a} h = absurd (let z : _≡_ {A = ℕ} 0 1 = cc in omega arith)
+  nth-left (x ∷ l) m zero h = h
+  nth-left (x ∷ l) m (suc k) h = nth-left l m k h
+
+  pub nth-cases : (l m : List A) (k : ℕ) {a : A} → getElem? (l ++ m) k ≡ some a
+      → (getElem? l k ≡ some a) ⊎ ((i : ℕ) × (k ≡ length l + i) × (getElem? m i ≡ some a))
+  nth-cases [] m k h = inr (k, omega arith, h)
+  nth-cases (x ∷ l) m zero h = inl h
+  nth-cases (x ∷ l) m (suc k) {a} h = up (nth-cases l m k h)
+    where
+      up : (getElem? l k ≡ some a) ⊎ ((i : ℕ) × (k ≡ length l + i) × (getElem? m i ≡ some a))
+          → (getElem? (x ∷ l) (suc k) ≡ some a) ⊎ ((i : ℕ) × (suc k ≡ length (x ∷ l) + i) × (getElem? m i ≡ some a))
+      up (inl e) = inl e
+      up (inr t) = inr (t .0, omega (arith, t .1), t .2)
+
+  pub nth-lt : (l : List A) (k : ℕ) {a : A} → getElem? l k ≡ some a → k < length l
+  nth-lt [] k h = absurd (let z : _≡_ {A = ℕ} 0 1 = cc in omega arith)
+  nth-lt (x ∷ l) zero h = omega arith
+  nth-lt (x ∷ l) (suc k) h = omega (arith, nth-lt l k h)
+
+  pub nth-seam : (l : List A) (a : A) (m : List A) → getElem? (l ++ a ∷ m) (length l) ≡ some a
+  nth-seam [] a m = refl
+  nth-seam (x ∷ l) a m = nth-seam l a m
+
+  pub nth-set-same : (l : List A) (k : ℕ) (v : A) {a : A} → getElem? l k ≡ some a → getElem? (set l k v) k ≡ some v
+  nth-set-same [] k v h = absurd (let z : _≡_ {A = ℕ} 0 1 = cc in omega arith)
+  nth-set-same (x ∷ l) zero v h = refl
+  nth-set-same (x ∷ l) (suc k) v h = nth-set-same l k v h
+
+  pub nth-set-other : (l : List A) (k i : ℕ) (v : A) → i ≢ k → getElem? (set l k v) i ≡ getElem? l i
+  nth-set-other [] k i v n = refl
+  nth-set-other (x ∷ l) zero zero v n = absurd (n refl)
+  nth-set-other (x ∷ l) zero (suc i) v n = refl
+  nth-set-other (x ∷ l) (suc k) zero v n = refl
+  nth-set-other (x ∷ l) (suc k) (suc i) v n = nth-set-other l k i v (λ e. n (ap suc e))
+
+module _ {A B : Type 0} (f : A → B) where
+  pub mem-map : {a : A} {l : List A} → Mem a l → Mem (f a) (map f l)
+  mem-map (mhead e) = mhead (ap f e)
+  mem-map (mtail m) = mtail (mem-map m)
+
+  pub mem-map-inv : (l : List A) {y : B} → Mem y (map f l) → (a : A) × Mem a l × (y ≡ f a)
+  mem-map-inv [] m = elim m [ ]
+  mem-map-inv (x ∷ l) {y} (mhead e) = (x, mhead refl, e)
+  mem-map-inv (x ∷ l) {y} (mtail m) = let r = mem-map-inv l m in (r .0, mtail (r .1), r .2)

@@ -1,0 +1,137 @@
+-- The laws of document 01's instruction set, from the laws of `op` and `code`.
+-- Assumes nothing.
+use mathlib.Core.Path.{_≡_, refl}
+use mathlib.Core.Bool.{Bool, true, false}
+use mathlib.Core.List.{List, [], _∷_, _++_}
+use mathlib.Core.Option.{some}
+use Prim.Native.Nat.{ℕ, _+_, _-_, _/_, _%_, _≤_, _<_}
+use native.Mathlib.Omega.{arith}
+use lib.Dec.{leb}
+use lib.IntN.{ℤ, pos, subℕ}
+use lib.ListN.{length}
+use lib.Signed.{mag}
+use mir.Syntax.{w16}
+use borrow.Author.Tests.{leb-true}
+use Rattle.op.specs.Choice.{pick}
+use Rattle.op.specs.Depths.{deepest, landing, afterOf, takenDepthOf, lowFalling, lowTaken}
+use Rattle.op.specs.Shapes.{shapeOf}
+use Rattle.op.specs.Effects.{effectOf, takenOf}
+use Rattle.op.specs.declared.After.{After}
+use Rattle.op.specs.declared.After.the-variants as A
+use Rattle.op.specs.declared.Effect.{Effect}
+use Rattle.op.specs.declared.Effect.the-variants as E
+use Rattle.op.specs.declared.Operand.{Operand}
+use Rattle.op.specs.declared.Operand.the-variants as O
+use Rattle.op.specs.declared.Refusal.{Refusal}
+use Rattle.op.specs.declared.Shape.the-variants as S
+use Rattle.op.specs.declared.Shaped.the-variants as P
+use Rattle.code.specs.Bytes.{unsigned}
+use Rattle.code.specs.Decode.{decode}
+use Rattle.code.specs.Depths.{Leads}
+use Rattle.code.specs.Encode.{encode}
+use Rattle.code.specs.Flow.{goalOf, changeOf}
+use Rattle.code.specs.declared.Goal.the-variants.{Nowhere}
+use Rattle.code.proofs.Inverse.{Formed, decode-encode, names-encode, words-names}
+use Rattle.code.proofs.Twos.{signed-small, unsigned-signed}
+use Rattle.builder.specs.Tables.{jumpSize}
+use Rattle.builder.specs.Marks.{near, bits}
+use Rattle.builder.proofs.Plans.{after-shape}
+use Rattle.builder.proofs.Displacing.{displaced, bits-small}
+use Rattle.demand.specs.Isa.{end, ins}
+use Rattle.demand.specs.Machine.{Instruction, instruction, inRange, isa}
+use Rattle.demand.proofs.Laws.{Laws}
+
+-- depths
+
+module _ (low : Refusal) (d e : ℕ) where
+  by-tests : (s t : Bool) (x : ℕ) (p q : Refusal) → leb x deepest ≡ t → pick s (pick t (A.Depth x) (A.Refused p)) (A.Refused q) ≡ A.Depth e → e ≤ 65535
+  by-tests true true x p q h k = let z : x ≡ e = cc in omega (arith, leb-true x deepest h)
+  by-tests true false x p q h k = absurd (let z : _≡_ {A = ℕ} 0 1 = cc in omega arith)
+  by-tests false t x p q h k = absurd (let z : _≡_ {A = ℕ} 0 1 = cc in omega arith)
+
+  pub landing-small : (x : Effect) → landing low d x ≡ A.Depth e → e ≤ 65535
+  unfolding landing
+  landing-small (E.By up down) h = by-tests (leb down (d + up)) (leb (d + up - down) deepest) (d + up - down) _ _ refl h
+  landing-small (E.Refused r) h = absurd (let z : _≡_ {A = ℕ} 0 1 = cc in omega arith)
+
+  -- the depth does not hang on the refusal that is given below 0
+  any-low : (s t : Bool) (x : ℕ) (p q q′ : Refusal) → pick s (pick t (A.Depth x) (A.Refused p)) (A.Refused q) ≡ A.Depth e → pick s (pick t (A.Depth x) (A.Refused p)) (A.Refused q′) ≡ A.Depth e
+  any-low true t x p q q′ h = h
+  any-low false t x p q q′ h = absurd (let z : _≡_ {A = ℕ} 0 1 = cc in omega arith)
+
+  -- an effect that lands leads there as a change
+  pub leads-of : (x : Effect) → landing low d x ≡ A.Depth e → Leads d (changeOf x) e
+  unfolding landing
+  leads-of (E.By up down) h = any-low (leb down (d + up)) (leb (d + up - down) deepest) (d + up - down) _ _ _ h
+  leads-of (E.Refused r) h = absurd (let z : _≡_ {A = ℕ} 0 1 = cc in omega arith)
+
+pub in-range : (x : After) (e : ℕ) → inRange x ≡ some e → x ≡ A.Depth e
+in-range (A.Depth d) e h = cc
+in-range (A.Refused r) e h = absurd (let z : _≡_ {A = ℕ} 0 1 = cc in omega arith)
+
+pub after-small : (d k : ℕ) (o : Operand) (e : ℕ) → inRange (afterOf d k o) ≡ some e → e ≤ 65535
+after-small d k o e h = landing-small lowFalling d e (effectOf k o) (in-range (afterOf d k o) e h)
+
+-- a jump's net effect is the same at every displacement
+pub jump-net : (d k : ℕ) (z y : ℤ) → afterOf d k (O.Offset z) ≡ afterOf d k (O.Offset y)
+unfolding effectOf
+jump-net d k z y = refl
+
+-- instructions that can be written
+
+-- no jump
+abbrev pub Still : Operand → Type 0
+Still o = (next end : ℕ) → goalOf next end o ≡ Nowhere
+
+pub record Valid (i : Instruction) : Type 0 where
+  pub formed : Formed (i .opcode) (i .operand) (i .names)
+  pub still : Still (i .operand)
+
+abbrev pub Jumps : ℕ → Type 0
+Jumps k = shapeOf k ≡ P.Is S.Offset
+
+-- what is well formed reads back
+pub dec-formed : (i : Instruction) → Formed (i .opcode) (i .operand) (i .names) → (r : List ℕ)
+    → isa .dec (isa .bytes i ++ r) ≡ ins i (length (isa .bytes i))
+dec-formed i f r =
+    let d = decode-encode (i .opcode) (i .operand) (i .names) r f 0 in
+    let n = names-encode (i .opcode) (i .operand) (i .names) r f in
+    rw (d, n, words-names (i .names))
+
+-- a jump's displacement
+
+module _ (o t : ℕ) (c : near o t ≡ true) where
+  pub offset-small : mag (subℕ t (o + jumpSize)) < 32768
+  offset-small = rw (← displaced o t c) (signed-small w16 65536 refl refl (bits o t) (bits-small o t c))
+
+  pub offset-bits : unsigned 65536 (subℕ t (o + jumpSize)) ≡ bits o t
+  offset-bits = rw (← displaced o t c) (unsigned-signed w16 65536 refl refl (bits o t) (bits-small o t c))
+
+  pub jump-bytes : (k : ℕ) → encode k (O.Offset (subℕ t (o + jumpSize))) [] ≡ k ∷ bits o t % 256 ∷ bits o t / 256 ∷ []
+  unfolding encode
+  jump-bytes k = rw offset-bits
+
+  pub jump-formed : (k : ℕ) → Jumps k → Formed k (O.Offset (subℕ t (o + jumpSize))) []
+  jump-formed k s = record { shape = s; signs = offset-small; count = refl }
+
+pub encode-some : (k : ℕ) (o : Operand) (ns : List ℕ) → 0 < length (encode k o ns)
+unfolding encode
+encode-some k o ns = omega arith
+
+pub dec-nothing : isa .dec [] ≡ end
+unfolding decode
+dec-nothing = refl
+
+abbrev pub laws : Laws isa
+laws = record {
+  valid = Valid;
+  jumps = Jumps;
+  some-byte = λ i. encode-some (i .opcode) (i .operand) (i .names);
+  net-small = λ i d e h. after-small d (i .opcode) (i .operand) e h;
+  jnet-small = λ k d e h. after-small d k (O.Offset (pos 0)) e h;
+  taken-small = λ k d e h. landing-small lowTaken d e (takenOf k) (in-range (takenDepthOf d k) e h);
+  jnet-jumps = λ k d e h. after-shape d k (O.Offset (pos 0)) e (in-range (afterOf d k (O.Offset (pos 0))) e h);
+  dec-end = dec-nothing;
+  dec-plain = λ i v r. dec-formed i (v .formed) r;
+  dec-jump = λ k o t s c r. rw (jump-bytes o t c k) at (dec-formed (instruction k (O.Offset (subℕ t (o + jumpSize))) []) (jump-formed o t c k s) r);
+}

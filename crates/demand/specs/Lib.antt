@@ -1,0 +1,6 @@
+pub mod Isa
+pub mod Machine
+pub mod History
+pub mod Calls
+pub mod World
+pub mod Demand
