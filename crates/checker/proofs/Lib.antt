@@ -7,4 +7,3 @@ pub mod Solutions
 pub mod Promising
 pub mod Reaching
 pub mod Certificate
-pub mod Examples

@@ -6,13 +6,11 @@ pub mod Inverse
 pub mod Stores
 pub mod Writing
 pub mod Flows
-pub mod Examples
 pub mod Counted
 pub mod First
 pub mod Rows
 pub mod Rising
 pub mod Joined
-pub mod ExampleH
 pub mod Places
 pub mod Assigning
 pub mod Counting

@@ -1,0 +1,43 @@
+-- All twelve examples hold: computed from the definitions that the promises cite, A, K and L by the checker's certificate.
+-- Assumes nothing.
+use mathlib.Core.Path.{refl}
+use mathlib.Core.List.{[], _∷_}
+use native.Mathlib.Omega.{arith}
+use Rattle.op.specs.Depths.{landing}
+use Rattle.op.specs.Effects.{effectBy, effectOf, takenOf, deadMaker}
+use Rattle.op.specs.Opcodes.{table, known, rowOf}
+use Rattle.op.specs.Shapes.{shapeOf, sizeOf}
+use Rattle.code.specs.Bytes.{signed}
+use Rattle.code.specs.Decode.{operandIn, decode}
+use Rattle.code.specs.Encode.{encode}
+use Rattle.code.specs.Entries.{findFrom, tableOf}
+use Rattle.code.specs.Flow.{goalBy, flowOf}
+use Rattle.code.specs.Lookups.{coversOf, firstCovering, handlerOf}
+use Rattle.code.specs.Rows.{first}
+use Rattle.builder.specs.Tables.{put}
+use Rattle.builder.specs.Plan.{soundOf, roomOf, behind, liveOf, planOf}
+use Rattle.builder.specs.Emit.{emitCore, emitNamed}
+use Rattle.builder.specs.Marks.{markOf, markIn, fits, markable, near, bits}
+use Rattle.builder.specs.Jumps.{jumpPlanOf, emitJumpOf, toLiveOf, toPlanOf, jumpToCore, emitJumpToOf}
+use Rattle.builder.specs.Patch.{markPlanOf, patchPlanOf, patchJumpOf}
+use Rattle.builder.specs.Calls.{addConstOf}
+use Rattle.checker.specs.Cells.{held}
+use Rattle.checker.proofs.Certificate.{certificate, must-accept, must-refuse}
+use Rattle.examples.specs.Table.{Examples, code-a, code-k, from-zero}
+
+pub hold : Examples
+unfolding landing effectBy effectOf takenOf deadMaker table known rowOf shapeOf sizeOf signed operandIn decode encode findFrom tableOf goalBy flowOf coversOf firstCovering handlerOf first put soundOf roomOf behind liveOf planOf emitCore emitNamed markOf markIn fits markable near bits jumpPlanOf emitJumpOf toLiveOf toPlanOf jumpToCore emitJumpToOf markPlanOf patchPlanOf patchJumpOf addConstOf held certificate
+hold = record {
+  a = λ d d′ r room P. must-accept code-a from-zero (0 ∷ 1 ∷ 65536 ∷ 65536 ∷ 0 ∷ 65536 ∷ 1 ∷ 0 ∷ 1 ∷ 65536 ∷ []) 6 tt (omega arith) d d′ r room P;
+  b = (refl, λ code n. rw n refl);
+  c = λ code n. (rw n refl, rw n refl, refl);
+  d = λ code n. (rw n refl, rw n refl, refl);
+  e = (λ names code m n. rw (m, n) refl, λ names code m n. (rw (m, n) refl, refl, rw n refl, rw n refl, refl));
+  f = λ code n. (rw n refl, rw n refl, refl);
+  g = (refl, refl, refl);
+  h = (refl, refl, refl, refl, refl, refl, refl, refl);
+  i = λ value cells n. (rw n refl, rw n refl, refl);
+  j = λ code n. (rw n refl, rw n refl, rw n refl, rw n refl);
+  k = (λ d d′ r room P. must-refuse code-k from-zero 2 0 0 1 tt tt tt (λ e. omega arith) (omega arith) d d′ r room P, refl);
+  l = λ d d′ r room P. must-accept [] [] (65536 ∷ []) 0 tt (omega arith) d d′ r room P;
+}
