@@ -1,36 +1,70 @@
 -- Laws of the progress of a listing: a line more fills the buffer on, and leaves fewer turns.
 -- Assumes nothing.
-use mathlib.Core.Path.{_≡_, refl, sym, ap, _∙_}
+use mathlib.Core.Path.{_≡_, refl, sym, ap, _∙_, subst}
 use mathlib.Core.Bool.{Bool, true, false, _&&_}
 use mathlib.Core.List.{List, [], _++_, append-nil, append-assoc}
 use Prim.Native.Nat.{ℕ, suc, _-_, _≤_, _<_}
 use native.Mathlib.Decide.{decLt}
 use native.Mathlib.Omega.{arith}
 use lib.Dec.{leb}
-use lib.ListN.{length, getD}
+use lib.ListN.{length, getD, drop}
 use lib.Seq.{length-sets}
 use borrow.Author.Tests.{leb-true, leb-false}
 use Rattle.op.specs.Choice.{pick}
-use Rattle.op.specs.Names.{nameText, nameStarts}
-use Rattle.text.specs.Listing.{restOf, firstLine, header, faultLine, most}
-use Rattle.text.specs.Lines.{Lists}
+use Rattle.op.specs.Names.{nameText, nameStarts, nameBy}
+use Rattle.op.specs.declared.Refusal.the-variants.{TooLarge}
+use Rattle.code.specs.Decode.{decode}
+use Rattle.code.specs.declared.Step.{Step}
+use Rattle.code.specs.declared.Step.the-variants as S
+use Rattle.reader.specs.Reader.{afterStep, afterAt}
+use Rattle.text.specs.Listing.{restOf, firstLine, header, faultLine, most, lineOf}
+use Rattle.text.specs.Lines.{Lists, linedBy, linedOf}
+use Rattle.text.specs.Put.{placedOf}
+use Rattle.text.specs.declared.Placed.{Placed}
+use Rattle.text.specs.declared.Placed.the-variants as P
 use Rattle.text.specs.declared.Lined.{Lined}
 use Rattle.text.specs.declared.Lined.the-variants as L
 use Rattle.text.proofs.Putting.{then}
 use Rattle.text.proofs.Saying.{says, refused-large}
-use Rattle.listing.specs.Progress.{passedBy, left, turns, Fills}
+use Rattle.listing.specs.Progress.{passedBy, left, turns, Fills, Told}
 use Rattle.listing.specs.declared.Progress.{Progress}
 
--- what one line more does
-pub record Told (code : List ℕ) (at : ℕ) (old : List ℕ) (to : ℕ) (p : Progress) (out : List ℕ) : Type 0 where
-  pub fills : Fills code at old to p out
-  pub fewer : turns code p < suc (length code - at)
+-- the line of an instruction says where the next one is
+abbrev Onward : ℕ → Lined → Type 0
+Onward n (L.Line to next) = next ≡ n
+Onward n (L.Fault to) = Unit {0}
+Onward n L.End = Unit {0}
+Onward n (L.Refused r) = Unit {0}
+
+onward-by : (at : ℕ) (p : Placed) (s : Step) → Onward (afterStep at s) (linedBy at p s)
+onward-by at (P.Behind to) (S.Instr k o z) = refl
+onward-by at (P.Refused q) (S.Instr k o z) = tt
+onward-by at p S.End = tt
+onward-by at (P.Behind to) (S.Refused r) = tt
+onward-by at (P.Refused q) (S.Refused r) = tt
+
+onward-of : (names starts code : List ℕ) (at : ℕ) (old : List ℕ) (to : ℕ) (answer : Lined) (out : List ℕ)
+    → Lists names starts code at old to answer out → Onward (afterAt code at) answer
+unfolding linedOf
+onward-of names starts code at old to answer out l = subst (λ (x : Lined). Onward (afterAt code at) x) (sym (l .answers)) (by (leb (length code) most))
+  where
+    placed : Placed
+    placed = placedOf old to (lineOf (nameBy names starts) at (drop at code))
+
+    by : (b : Bool) → Onward (afterAt code at) (pick b (linedBy at placed (decode at (drop at code))) (L.Refused TooLarge))
+    by true = onward-by at placed (decode at (drop at code))
+    by false = tt
+
+-- no line more
+ended : {A : Type 0} → false ≡ true → A
+ended e = let y : _≡_ {A = ℕ} 0 1 = cc in let z : ⊥ = omega arith in absurd z
 
 module _ (code : List ℕ) (at : ℕ) (old : List ℕ) (to : ℕ) (bytes : (i : ℕ) → getD code i 0 < 256) (room : 2048 ≤ length old - to) where
   nothing : (out : List ℕ) → out ≡ old → restOf code at ≡ [] → Told code at old to (record { at = at; to = to; more = false }) out
   nothing out e r = record {
     fills = record { text = []; puts = record { next-is = omega arith; out-is = e }; fits = omega arith; rest = r };
     fewer = omega arith;
+    next = ended;
   }
 
   pub told : (answer : Lined) (out : List ℕ) → Lists nameText nameStarts code at old to answer out → Told code at old to (passedBy answer at to) out
@@ -39,12 +73,14 @@ module _ (code : List ℕ) (at : ℕ) (old : List ℕ) (to : ℕ) (bytes : (i : 
       record {
         fills = record { text = g .text; puts = g .puts; fits = omega (arith, g .puts .next-is, g .fits); rest = g .rest };
         fewer = omega (arith, g .on, g .within);
+        next = λ m. onward-of nameText nameStarts code at old to (L.Line to′ next) out l;
       }
   told (L.Fault to′) out l =
       let g = says code at old to (L.Fault to′) out l in
       record {
         fills = record { text = restOf code at; puts = g .0; fits = omega (arith, g .0 .next-is, g .1); rest = sym (append-nil (restOf code at)) };
         fewer = omega arith;
+        next = ended;
       }
   told L.End out l = let g = says code at old to L.End out l in nothing out (g .0) (g .1)
   told (L.Refused r) out l = nothing out (says code at old to (L.Refused r) out l) (refused-large code at old to r out bytes room l)
@@ -87,7 +123,7 @@ pub reached-first : (code : List ℕ) (at : ℕ) (old : List ℕ) (to : ℕ) →
 reached-first code at old to h = record { fills = unfilled code at old to h; fewer = omega arith; still = λ e. refl }
 
 -- what the test says
-ready-true : (m : Bool) (n : ℕ) → pick m (leb 2048 n) false ≡ true → (m ≡ true) × (2048 ≤ n)
+pub ready-true : (m : Bool) (n : ℕ) → pick m (leb 2048 n) false ≡ true → (m ≡ true) × (2048 ≤ n)
 ready-true true n e = (refl, leb-true 2048 n e)
 ready-true false n e = let y : _≡_ {A = ℕ} 0 1 = cc in let z : ⊥ = omega arith in absurd z
 
@@ -95,22 +131,19 @@ pub turns-left : (code : List ℕ) (p : Progress) → p .more ≡ true → turns
 turns-left code p m = ap (λ (b : Bool). pick b (suc (length code - p .at)) 0) m
 
 -- a turn of the loop
-module _ {code old out out′ : List ℕ} {at to : ℕ} {p : Progress} (answer : Lined) (bytes : (i : ℕ) → getD code i 0 < 256) (r : Reached code at old to p out)
-    (ready : pick (p .more) (leb 2048 (length out - p .to)) false ≡ true) (l : Lists nameText nameStarts code (p .at) out (p .to) answer out′) where
+module _ {code old out out′ : List ℕ} {at to : ℕ} {p q : Progress} (r : Reached code at old to p out)
+    (ready : pick (p .more) (leb 2048 (length out - p .to)) false ≡ true) (l : Told code (p .at) out (p .to) q out′) where
   is-ready : (p .more ≡ true) × (2048 ≤ length out - p .to)
   is-ready = ready-true (p .more) (length out - p .to) ready
 
-  line : Told code (p .at) out (p .to) (passedBy answer (p .at) (p .to)) out′
-  line = told code (p .at) out (p .to) bytes (is-ready .1) answer out′ l
+  pub turns-fall : turns code q < turns code p
+  turns-fall = omega (arith, l .fewer, turns-left code p (is-ready .0))
 
-  pub turns-fall : turns code (passedBy answer (p .at) (p .to)) < turns code p
-  turns-fall = omega (arith, line .fewer, turns-left code p (is-ready .0))
-
-  pub reached-on : Reached code at old to (passedBy answer (p .at) (p .to)) out′
+  pub reached-on : Reached code at old to q out′
   reached-on =
       let h = turns-fall in
       record {
-        fills = onward code at old to p (passedBy answer (p .at) (p .to)) out out′ (is-ready .0) (r .fills) (line .fills);
+        fills = onward code at old to p q out out′ (is-ready .0) (r .fills) (l .fills);
         fewer = omega (arith, h, r .fewer);
         still = λ e. let z : ⊥ = omega (arith, h, r .fewer) in absurd z;
       }

@@ -3,10 +3,11 @@
 use mathlib.Core.Path.{_≡_}
 use mathlib.Core.Bool.{true, false}
 use mathlib.Core.List.{List, [], _++_}
-use Prim.Native.Nat.{ℕ, suc, _-_, _≤_}
+use Prim.Native.Nat.{ℕ, suc, _-_, _≤_, _<_}
 use lib.ListN.{length}
 use Rattle.op.specs.Choice.{pick}
 use Rattle.op.specs.Names.{nameText, nameStarts}
+use Rattle.reader.specs.Reader.{afterAt}
 use Rattle.text.specs.Listing.{restOf}
 use Rattle.text.specs.Put.{Put}
 use Rattle.text.specs.declared.Lined.{Lined}
@@ -34,6 +35,12 @@ pub record Fills (code : List ℕ) (at : ℕ) (old : List ℕ) (to : ℕ) (p : P
   pub puts : Put old to text (p .to) out
   pub fits : p .to ≤ length old
   pub rest : restOf code at ≡ text ++ left code p
+
+-- one line more: what it put is the next part of the listing, there is less left to do, and the next line is that of the next instruction
+pub record Told (code : List ℕ) (at : ℕ) (old : List ℕ) (to : ℕ) (p : Progress) (out : List ℕ) : Type 0 where
+  pub fills : Fills code at old to p out
+  pub fewer : turns code p < suc (length code - at)
+  pub next : p .more ≡ true → p .at ≡ afterAt code at
 
 -- what is lent: op's names, and a buffer with room for any line from a place on
 pub record Lent (texts starts out : List ℕ) (to : ℕ) : Type 0 where

@@ -7,10 +7,11 @@ ghost use lib.Dec.{leb};
 ghost use lib.ListN.{length};
 ghost use Rattle.op.specs.Choice.{pick};
 ghost use Rattle.op.specs.Names.{nameText, nameStarts};
-ghost use Rattle.listing.specs.Progress.{passedBy, turns, Fills, Lent};
+ghost use Rattle.listing.specs.Progress.{passedBy, turns, Fills, Told, Lent};
 use libc::STDIN_FILENO;
 use libc::STDOUT_FILENO;
 use op::names;
+use reader::InstructionReader;
 use text::Lined;
 use text::Placed;
 use text::lines;
@@ -68,7 +69,22 @@ fn ready(more: bool, size: usize, to: usize) -> bool
     false
 }
 
-// As many lines as surely fit, from the offset `at` on, into the buffer from `to` on.
+// Puts the line at an offset of the code into the buffer from `to` on, and says how far it then is.
+fn put_line(
+    code: &[u8],
+    at: usize,
+    texts: &[u8],
+    starts: &[usize],
+    out: &mut [u8],
+    to: usize,
+) -> Progress
+    requires { ⌜ Lent (now texts) (now starts) (now out) to ⌝ }
+    ensures { λ r. ⌜ Told (now (code .entry)) at (now (out .entry)) to r (now (out .exit)) ⌝ }
+{
+    passed(lines::line_at(code, at, texts, starts, out, to), at, to)
+}
+
+// As many lines as surely fit, from the offset `at` on, into the buffer from `to` on: the reader goes from instruction to instruction.
 fn fill(
     code: &[u8],
     texts: &[u8],
@@ -78,16 +94,13 @@ fn fill(
     to: usize,
 ) -> Progress
     requires { ⌜ Lent (now texts) (now starts) (now out) to ⌝ }
-    ensures { λ r. ⌜ Fills (now (code .entry)) at (now (out .entry)) to r (now (out .exit)) ⌝ }
-    ensures { λ r. ⌜ turns (now (code .entry)) r < suc (length (now (code .entry)) - at) ⌝ }
+    ensures { λ r. ⌜ Fills (now (code .entry)) at (now (out .entry)) to r (now (out .exit)) × (turns (now (code .entry)) r < suc (length (now (code .entry)) - at)) ⌝ }
 {
+    let mut reader = InstructionReader { code, at };
     let mut p = Progress { at, to, more: true };
     while ready(p.more, out.len(), p.to) {
-        p = passed(
-            lines::line_at(code, p.at, texts, starts, out, p.to),
-            p.at,
-            p.to,
-        );
+        p = put_line(reader.code, reader.at, texts, starts, out, p.to);
+        reader = reader.advanced();
     }
     p
 }

@@ -1,0 +1,4 @@
+pub mod Again
+pub mod Called
+pub mod Locals
+pub mod Tested

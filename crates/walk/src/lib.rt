@@ -1,0 +1,1 @@
+// Steps that proofs by hand share: no code.
