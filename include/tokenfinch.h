@@ -1,4 +1,4 @@
-/* tokenfinch.h: the opcode rules, the decoder, the instruction writer and the lookups, for C.
+/* tokenfinch.h: the opcode rules, the decoder, the instruction writer, the depth checker and the lookups, for C.
  *
  * The functions are proved: each one ends for every argument and answers what is said beside it,
  * and none of them trusts its caller. They keep no state and may be called from any thread.
@@ -38,7 +38,10 @@ enum {
     TF_TOO_MANY_NAMES = 7,   /* over 255 keyword names */
     TF_TOO_LARGE = 10,       /* the code is over 1,048,576 bytes */
     TF_FULL = 18,            /* too little room where the answer is to be written */
-    TF_CUT_SHORT = 22        /* an instruction is cut short by the code's end */
+    TF_BAD_STARTS = 20,      /* an odd number of them, a depth over 65,535, or an offset that is no place in the code */
+    TF_SHORT_DEPTHS = 21,    /* fewer depths than bytes of code and one */
+    TF_CUT_SHORT = 22,       /* an instruction is cut short by the code's end */
+    TF_NO_DEPTHS = 23        /* no depths can be given to the instructions */
 };
 
 /* The opcodes, in op.rs's numbers. */
@@ -199,6 +202,18 @@ tf_answer tf_step(const uint8_t *code, size_t length, size_t at, uint64_t *out, 
  * or there are names and the shape has none; then 18. A refusal writes nothing. */
 tf_answer tf_write(uint8_t *out, size_t room, uint8_t opcode, uint8_t shape, uint16_t a, uint16_t b, uint8_t c,
                    const uint16_t *names, size_t count);
+
+/* An element of depths that holds no depth. */
+enum { TF_NO_DEPTH = 65536 };
+
+/* Whether a depth of the stack can be given to each instruction of length bytes of code that the starts lead to,
+ * so that all paths meet with the same depth. starts has start_cells numbers: the offset of a start, its depth, and so on. Value:
+ * how many instructions have a depth. The first length + 1 elements of depths, which has room elements, then hold the
+ * depth before the instruction at each offset, the last of them the depth at the code's end, and TF_NO_DEPTH elsewhere; on 23 they
+ * all hold TF_NO_DEPTH. Any other refusal writes nothing, and no later element is ever written.
+ * Refuses, in this order: 10, 21, 1 or 22 (tf_step finds the offset), 20, 23. */
+tf_answer tf_check(const uint8_t *code, size_t length, const uint32_t *starts, size_t start_cells, uint32_t *depths,
+                   size_t room);
 
 /* ---- Lookups in the tables of compiled code
  *

@@ -172,6 +172,32 @@ static void writing(void)
             report("a refusal writes nothing", 0);
 }
 
+/* a check of some bytes, with a cell behind the depths that has to stay as it is */
+static tf_answer checked(const char *bytes, size_t length, const uint32_t *starts, size_t cells, uint32_t *depths)
+{
+    for (size_t i = 0; i <= length + 1; i++)
+        depths[i] = 77;
+    return tf_check((const uint8_t *)bytes, length, starts, cells, depths, length + 1);
+}
+
+static void depths(void)
+{
+    static const char nine[] = "\x06\x5a\x03\x00\x08\x07\x00\x05\x65", loop[] = "\x05\x58\xfc\xff";
+    static const uint32_t zero[] = {0, 0}, inside[] = {2, 0};
+    static const uint32_t nine_depths[] = {0, 1, TF_NO_DEPTH, TF_NO_DEPTH, 0, TF_NO_DEPTH, 1, 0, 1, TF_NO_DEPTH, 77};
+    uint32_t depth[16];
+    report("the nine bytes", checked(nine, 9, zero, 2, depth) == 6);
+    report("their depths", memcmp(depth, nine_depths, sizeof nine_depths) == 0);
+    report("a loop that grows", tf_refusal(checked(loop, 4, zero, 2, depth)) == TF_NO_DEPTHS);
+    report("leaves no depth", depth[0] == TF_NO_DEPTH && depth[4] == TF_NO_DEPTH && depth[5] == 77);
+    report("no bytes", checked("", 0, NULL, 0, depth) == 0 && depth[0] == TF_NO_DEPTH && depth[1] == 77);
+    report("a start inside", tf_refusal(checked(nine, 9, inside, 2, depth)) == TF_BAD_STARTS && depth[0] == 77);
+    report("an odd list", tf_refusal(checked(nine, 9, zero, 1, depth)) == TF_BAD_STARTS && depth[0] == 77);
+    report("cut short", tf_refusal(checked(nine, 3, zero, 2, depth)) == TF_CUT_SHORT && depth[0] == 77);
+    report("no opcode", tf_refusal(checked("\x05\x83", 2, zero, 2, depth)) == TF_UNKNOWN_OPCODE && depth[0] == 77);
+    report("too few depths", tf_refusal(tf_check((const uint8_t *)nine, 9, zero, 2, depth, 9)) == TF_SHORT_DEPTHS);
+}
+
 static void handlers(void)
 {
     /* the document's example: 2..8 to 20, 0..10 to 30; behind them a part of a row */
@@ -225,6 +251,7 @@ int main(void)
     keyword_call();
     damaged();
     writing();
+    depths();
     handlers();
     locations();
     constants_and_names();

@@ -3,3 +3,4 @@ pub mod Given
 pub mod Told
 pub mod Steps
 pub mod Tables
+pub mod Checks

@@ -6,7 +6,9 @@ ghost use Rattle.op.specs.Effects.{netOf, Small};
 ghost use Rattle.op.specs.declared.AssertFlags.the-variants.{Valid};
 ghost use Rattle.code.specs.Bytes.{front};
 ghost use Rattle.api.specs.Answers.{refused, netAnswer, depthAnswer};
+ghost use Rattle.api.specs.Checks.{checkAnswer};
 ghost use Rattle.api.specs.Given.{flagsAnswer};
+use checker::Checked;
 use op::After;
 use op::Compared;
 use op::Effect;
@@ -37,6 +39,16 @@ pub fn of_depth(after: After) -> u64
     match after {
         After::Depth(depth) => depth as u64,
         After::Refused(refusal) => refused(refusal),
+    }
+}
+
+// A check's answer.
+pub fn of_checked(checked: Checked) -> u64
+    ensures { λ r. ⌜ r ≡ checkAnswer checked ⌝ }
+{
+    match checked {
+        Checked::Accepted(count) => count as u64,
+        Checked::Refused(refusal) => refused(refusal),
     }
 }
 

@@ -1,4 +1,5 @@
-// What C and Rust call: the opcode rules, the decoder's step, the instruction writer and the lookups, on numbers and slices of numbers.
+// What C and Rust call: the opcode rules, the decoder's step, the instruction writer, the depth checker and the lookups, on numbers and
+// slices of numbers.
 // include/tokenfinch.h declares these functions and says in words what they promise here.
 ghost use mathlib.Core.Path.{_≡_};
 ghost use lib.ListN.{length, drop};
@@ -9,6 +10,7 @@ ghost use Rattle.op.specs.Flags.{decodedFlags};
 ghost use Rattle.code.specs.Decode.{decode};
 ghost use Rattle.code.specs.Lookups.{locationOf, handlerOf, constantOf, localNameOf};
 ghost use Rattle.api.specs.Answers.{shapeAnswer, netAnswer, deadAnswer, depthAnswer, sizeAnswer, nameAnswer, nameCells, countAnswer};
+ghost use Rattle.api.specs.Checks.{ChecksTold};
 ghost use Rattle.api.specs.Given.{givenOf, effectGiven, afterGiven, flagsGiven, flagsAnswer};
 ghost use Rattle.api.specs.Told.{Tells};
 ghost use Rattle.api.specs.Steps.{stepTold, WritesGiven};
@@ -215,6 +217,14 @@ pub extern "C" fn tf_write(
         operands::operand(shape, a, b, c, names.len() as u8),
         names,
     )
+}
+
+#[no_mangle]
+pub extern "C" fn tf_check(code: &[u8], starts: &[u32], depths: &mut [u32]) -> u64
+    ensures { λ r. ⌜ ChecksTold (now (code .entry)) (now (starts .entry)) (now (depths .entry)) r (now (depths .exit)) ⌝ }
+{
+    let checked = checker::check(code, starts, depths);
+    answers::of_checked(checked)
 }
 
 #[no_mangle]
