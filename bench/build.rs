@@ -4,13 +4,14 @@
 use std::{env, path::PathBuf, process};
 
 fn main() {
-    let here = PathBuf::from(env::var("CARGO_MANIFEST_DIR").expect("cargo names the manifest's folder"));
+    let here =
+        PathBuf::from(env::var("CARGO_MANIFEST_DIR").expect("cargo names the manifest's folder"));
     let root = here
         .ancestors()
         .nth(1)
         .expect("the package stands in bench");
-    let archive =
-        env::var_os("TOKENFINCH_ARCHIVE").map_or_else(|| root.join("target/staticlib/libapi.a"), PathBuf::from);
+    let archive = env::var_os("TOKENFINCH_ARCHIVE")
+        .map_or_else(|| root.join("target/staticlib/libapi.a"), PathBuf::from);
     println!("cargo::rerun-if-env-changed=TOKENFINCH_ARCHIVE");
     println!("cargo::rerun-if-changed={}", archive.display());
     if env::var("CARGO_CFG_TARGET_ARCH").as_deref() != Ok("x86_64") {

@@ -124,21 +124,34 @@ fn itoa(number: i64) -> Digits {
 fn run(program: &Path, input: &Path) -> f64 {
     let stdin = File::open(input).expect("the input");
     let begun = Instant::now();
-    let status = Command::new(program).stdin(stdin).stdout(Stdio::null()).status().expect("the program runs");
+    let status = Command::new(program)
+        .stdin(stdin)
+        .stdout(Stdio::null())
+        .status()
+        .expect("the program runs");
     assert!(status.success());
     begun.elapsed().as_secs_f64()
 }
 
 fn printed(program: &Path, input: &Path) -> Vec<u8> {
     let stdin = File::open(input).expect("the input");
-    Command::new(program).stdin(stdin).output().expect("the program runs").stdout
+    Command::new(program)
+        .stdin(stdin)
+        .output()
+        .expect("the program runs")
+        .stdout
 }
 
 /// The two programs: the proved one, and the one that is built beside this.
 fn programs() -> [PathBuf; 2] {
     let here = std::env::current_exe().expect("this program has a place");
-    let root = Path::new(env!("CARGO_MANIFEST_DIR")).parent().expect("bench stands in the repository");
-    [root.join("target/bin/listing"), here.with_file_name("plain_listing")]
+    let root = Path::new(env!("CARGO_MANIFEST_DIR"))
+        .parent()
+        .expect("bench stands in the repository");
+    [
+        root.join("target/bin/listing"),
+        here.with_file_name("plain_listing"),
+    ]
 }
 
 pub fn measure(code: &[u8], repetitions: usize) {
@@ -148,11 +161,21 @@ pub fn measure(code: &[u8], repetitions: usize) {
     fs::write(&full, code).expect("the input is written");
     fs::write(&empty, []).expect("the input is written");
     let [proved, plain] = programs();
-    assert_eq!(printed(&proved, &full), printed(&plain, &full), "the two listings differ");
+    assert_eq!(
+        printed(&proved, &full),
+        printed(&plain, &full),
+        "the two listings differ"
+    );
     let mut times = [Vec::new(), Vec::new(), Vec::new(), Vec::new()];
     for _ in 0..repetitions.max(100) {
-        for (i, (program, input)) in
-            [(&proved, &full), (&plain, &full), (&proved, &empty), (&plain, &empty)].into_iter().enumerate()
+        for (i, (program, input)) in [
+            (&proved, &full),
+            (&plain, &full),
+            (&proved, &empty),
+            (&plain, &empty),
+        ]
+        .into_iter()
+        .enumerate()
         {
             times[i].push(run(program, input));
         }

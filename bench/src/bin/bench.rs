@@ -1,9 +1,9 @@
-//! Times the proved library beside plain Rust written for the purpose. Both sides do the same work on the same
+//! Times the proved library beside plain Rust written for the purpose, or beside the original Rust where it has the same. Both sides do the same work on the same
 //! bytes, turn by turn in one process; the ratio is that of the medians. Buffers are warm: each side has run once
 //! before it is timed.
 
-use bench::{decode, listing, row};
-use std::{env, time::Instant};
+use bench::{checker, decode, emission, listing, lookups::Tables, row};
+use std::{cell::RefCell, env, time::Instant};
 
 /// Two ways to do one piece of work, each answering a number that must agree.
 struct Pair<'a> {
@@ -31,13 +31,60 @@ fn measure(pair: &Pair<'_>, repetitions: usize) {
 }
 
 fn main() {
-    let repetitions = env::args().nth(1).map_or(51, |n| n.parse().expect("a number of repetitions"));
-    println!("{:<44} {:>9} {:>9} {:>7} {:>7}", "", "proved ms", "plain ms", "median", "best");
+    let repetitions = env::args()
+        .nth(1)
+        .map_or(51, |n| n.parse().expect("a number of repetitions"));
+    println!(
+        "{:<44} {:>9} {:>9} {:>7} {:>7}",
+        "", "proved ms", "plain ms", "median", "best"
+    );
     let random = decode::code(1 << 20, decode::Mix::Random);
     let pattern = decode::code(1 << 20, decode::Mix::Pattern);
-    for (what, code) in [("count 1 MiB, random opcodes", &random), ("count 1 MiB, one pattern", &pattern)] {
-        let pair = Pair { what, proved: &|| decode::proved(code), plain: &|| decode::plain(code) };
+    for (what, code) in [
+        ("count 1 MiB, random opcodes", &random),
+        ("count 1 MiB, one pattern", &pattern),
+    ] {
+        let pair = Pair {
+            what,
+            proved: &|| decode::proved(code),
+            plain: &|| decode::plain(code),
+        };
         measure(&pair, repetitions);
     }
+    let checked = checker::code(1 << 20);
+    let depths = RefCell::new(vec![0; checked.len() + 1]);
+    let pair = Pair {
+        what: "check 1 MiB, jumps forward",
+        proved: &|| checker::proved(&checked, &mut depths.borrow_mut()),
+        plain: &|| checker::plain(&checked, &mut depths.borrow_mut()),
+    };
+    measure(&pair, repetitions);
+    for (rows, locations, handlers) in [
+        (
+            32,
+            "1,000 location lookups, 32 rows",
+            "1,000 handler lookups, 32 rows",
+        ),
+        (
+            5_000,
+            "1,000 location lookups, 5,000 rows",
+            "1,000 handler lookups, 5,000 rows",
+        ),
+    ] {
+        let tables = Tables::new(rows);
+        let pair = Pair {
+            what: locations,
+            proved: &|| tables.locations_proved(),
+            plain: &|| tables.locations_plain(),
+        };
+        measure(&pair, repetitions);
+        let pair = Pair {
+            what: handlers,
+            proved: &|| tables.handlers_proved(),
+            plain: &|| tables.handlers_plain(),
+        };
+        measure(&pair, repetitions);
+    }
+    emission::measure(repetitions);
     listing::measure(&decode::code(1 << 16, decode::Mix::Random), repetitions);
 }

@@ -1,0 +1,122 @@
+// Emits ten million instructions for bench/ to measure, in rounds of one rule each: a constant, a small number, a sum, a store, a
+// load, a jump with its patch and a Nop over and over, all with locations. Reads nothing; writes the last rule's size as two
+// bytes, so that no work can be left out.
+use builder::Answer;
+use builder::Builder;
+use builder::Depth;
+use builder::Jumped;
+use builder::emission;
+use builder::instructions;
+use builder::jumps;
+use builder::patching;
+use builder::queries;
+use builder::regions;
+use code::CodeRange;
+use code::Focus;
+use libc::STDOUT_FILENO;
+use op::opcodes;
+
+const ROUNDS: u32 = 572;
+
+// Turns of seven instructions a round.
+const TURNS: u32 = 2500;
+
+// One turn. Nothing is refused here; what would be ends the turn, as `?` does in Rust.
+fn turn(
+    b: Builder,
+    i: u32,
+    code: &mut [u8; 65536],
+    locations: &mut [u32; 106000],
+    marks: &mut [u32; 10000],
+) -> Builder {
+    let at = CodeRange { start: i, end: i };
+    let slot = (i % 300) as u16;
+    let constant = (i % 65536) as u16;
+    let here = queries::set_location(b, at, Focus::Absent);
+    let Answer::Accepted(one) = emission::emit_u16(
+        here,
+        opcodes::LOAD_CONST,
+        constant,
+        code,
+        locations,
+    ) else {
+        return here;
+    };
+    let Answer::Accepted(two) = emission::emit_i8(one, opcodes::LOAD_SMALL_INT, 7, code, locations)
+    else {
+        return one;
+    };
+    let Answer::Accepted(three) = emission::emit(two, opcodes::BINARY_ADD, code, locations) else {
+        return two;
+    };
+    let Answer::Accepted(four) = instructions::emit_store_local(three, slot, code, locations) else {
+        return three;
+    };
+    let Answer::Accepted(five) = instructions::emit_load_local(four, slot, code, locations) else {
+        return four;
+    };
+    let Jumped::Made(six, label) = jumps::emit_jump(
+        five,
+        opcodes::JUMP_IF_FALSE,
+        code,
+        locations,
+        marks,
+    ) else {
+        return five;
+    };
+    let Answer::Accepted(seven) = patching::patch_jump(six, label, code, marks) else {
+        return six;
+    };
+    let Answer::Accepted(eight) = emission::emit(seven, opcodes::NOP, code, locations) else {
+        return seven;
+    };
+    eight
+}
+
+// One rule, from a new builder on; its size.
+fn rule(
+    code: &mut [u8; 65536],
+    locations: &mut [u32; 106000],
+    marks: &mut [u32; 10000],
+    starts: &mut [u32; 2],
+) -> usize {
+    let made = regions::new(Depth::Live(0), starts);
+    let Answer::Accepted(first) = made else {
+        return 0;
+    };
+    let mut b = first;
+    let mut i = 0;
+    while i < TURNS {
+        b = turn(b, i, code, locations, marks);
+        i += 1;
+    }
+    queries::current_offset(b)
+}
+
+// All rounds; the last rule's size.
+fn rounds(
+    code: &mut [u8; 65536],
+    locations: &mut [u32; 106000],
+    marks: &mut [u32; 10000],
+    starts: &mut [u32; 2],
+) -> usize {
+    let mut size = 0;
+    let mut i = 0;
+    while i < ROUNDS {
+        size = rule(code, locations, marks, starts);
+        i += 1;
+    }
+    size
+}
+
+fn main() {
+    let mut code = [0u8; 65536];
+    let mut locations = [0u32; 106000];
+    let mut marks = [0u32; 10000];
+    let mut starts = [0u32; 2];
+    let size = rounds(&mut code, &mut locations, &mut marks, &mut starts);
+    let low = (size % 256) as u8;
+    let high = (size / 256 % 256) as u8;
+    let text = [low, high];
+    io::write_all(STDOUT_FILENO, &text);
+}
