@@ -10,6 +10,7 @@ mod original;
 mod proved;
 mod random;
 mod reference;
+mod script;
 mod tally;
 
 use std::{env, process::ExitCode, time::Instant};

@@ -1,5 +1,7 @@
 //! A decoder and lookups written for this comparison from the rules' text ("Bytes and depths", "Lookups"), without a
-//! look at the proved ones. Which opcode has which shape the text leaves to op.rs's `operand_shape`, and so does this.
+//! look at the proved ones; `depths` has the depth checker. Which opcode has which shape the text leaves to op.rs's `operand_shape`, and so does this.
+
+pub mod depths;
 
 use crate::original;
 
@@ -20,12 +22,23 @@ pub struct Decoder {
     shapes: Vec<Option<u8>>,
 }
 
+impl Default for Decoder {
+    fn default() -> Self {
+        Self::new()
+    }
+}
+
 impl Decoder {
     pub fn new() -> Self {
         let shapes = (0..=u8::MAX).map(|byte| original::opcode(byte).map(original::shape));
         Self {
             shapes: shapes.collect(),
         }
+    }
+
+    /// The opcode's shape; none above the last opcode.
+    pub fn shape(&self, opcode: u8) -> Option<u8> {
+        self.shapes[usize::from(opcode)]
     }
 
     /// The size by the text: None 1; U8, I8 2; U16, Offset, U8U8 3; U16U8 4; U16U16, U16U8U8 5; U16U16U8 6;
@@ -92,6 +105,29 @@ fn values(shape: u8, bytes: &[u8]) -> [usize; 3] {
         11 => [word(1), word(3), byte(5)],
         _ => panic!("no shape {shape}"),
     }
+}
+
+/// An instruction's operands in byte order, as a listing has them: I8 and displacements signed, the count of names in its
+/// place, the names last.
+pub fn operands(code: &[u8], cells: &Cells) -> Vec<i64> {
+    let [_, _, shape, a, b, c, n, place] = *cells;
+    let mut operands: Vec<i64> = match shape {
+        0 => vec![],
+        1 | 3 => vec![a as i64],
+        2 => vec![i64::from(a as u8 as i8)],
+        4 => vec![i64::from(a as u16 as i16)],
+        5..=7 => vec![a as i64, b as i64],
+        9 => vec![a as i64, n as i64],
+        10 => vec![a as i64, b as i64, n as i64],
+        _ => vec![a as i64, b as i64, c as i64],
+    };
+    let names = &code[place as usize..][..2 * n as usize];
+    operands.extend(
+        names
+            .chunks(2)
+            .map(|name| i64::from(u16::from_le_bytes([name[0], name[1]]))),
+    );
+    operands
 }
 
 /// The location row of an offset: the row before the first whose offset is greater, or the last if none is.

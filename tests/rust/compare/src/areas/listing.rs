@@ -5,14 +5,15 @@ use std::{
     env,
     fmt::Write as _,
     fs::{self, File},
-    path::{Path, PathBuf},
+    path::PathBuf,
     process::{self, Command},
 };
 
 use crate::{
     Plan, original,
     random::Random,
-    reference::{Decoder, Step},
+    reference::{self, Decoder, Step},
+    script,
     tally::{Expected, Tally},
 };
 
@@ -20,25 +21,18 @@ use crate::{
 const MOST: usize = 65_536;
 
 pub fn run(tally: &mut Tally, plan: &mut Plan) {
-    let program = program();
+    let program = script::program_at("listing");
     let folder = env::temp_dir().join(format!("tokenfinch-listing-{}", process::id()));
     fs::create_dir_all(&folder).expect("a folder for the inputs");
-    let run = Run { program, file: folder.join("code"), decoder: Decoder::new() };
+    let run = Run {
+        program,
+        file: folder.join("code"),
+        decoder: Decoder::new(),
+    };
     for (what, code) in cases(plan, &run.decoder) {
         run.one(tally, &what, &code);
     }
     fs::remove_dir_all(&folder).expect("the folder is removed");
-}
-
-/// The proved program, which `rt check listing` builds.
-fn program() -> PathBuf {
-    let root = Path::new(env!("CARGO_MANIFEST_DIR")).ancestors().nth(3).expect("the package stands in tests/rust/compare");
-    let program = root.join("target/bin/listing");
-    if !program.is_file() {
-        eprintln!("compare: no program at {}: run rt check listing in the repository first", program.display());
-        process::exit(1);
-    }
-    program
 }
 
 struct Run {
@@ -51,12 +45,17 @@ impl Run {
     fn one(&self, tally: &mut Tally, what: &str, code: &[u8]) {
         fs::write(&self.file, code).expect("the input is written");
         let stdin = File::open(&self.file).expect("the input is there");
-        let output = Command::new(&self.program).stdin(stdin).output().expect("the program runs");
+        let output = Command::new(&self.program)
+            .stdin(stdin)
+            .output()
+            .expect("the program runs");
         let printed = String::from_utf8(output.stdout).expect("a listing is ASCII");
         let said = output.status.success() && output.stderr.is_empty();
-        tally.compare((said, printed), Expected::by_text((true, listing(&self.decoder, code))), || {
-            format!("{what}, {} bytes: {:?}", code.len(), &code[..code.len().min(60)])
-        });
+        tally.compare(
+            (said, printed),
+            Expected::by_text((true, listing(&self.decoder, code))),
+            || format!("{what}, {} bytes: {:?}", code.len(), &code[..code.len().min(60)]),
+        );
     }
 }
 
@@ -84,30 +83,29 @@ fn listing(decoder: &Decoder, code: &[u8]) -> String {
 
 /// A line, from the step's eight numbers: opcode, size, shape, three values, count and place of the names.
 fn line(text: &mut String, code: &[u8], at: usize, cells: &[u64; 8]) {
-    let [opcode, _, shape, a, b, c, n, place] = *cells;
-    let name = original::opcode(opcode as u8).expect("the step knows the opcode");
-    let mut operands: Vec<i64> = match shape {
-        0 => vec![],
-        1 | 3 => vec![a as i64],
-        2 => vec![i64::from(a as u8 as i8)],
-        4 => vec![i64::from(a as u16 as i16)],
-        5..=7 => vec![a as i64, b as i64],
-        9 => vec![a as i64, n as i64],
-        10 => vec![a as i64, b as i64, n as i64],
-        _ => vec![a as i64, b as i64, c as i64],
+    let name = original::opcode(cells[0] as u8).expect("the step knows the opcode");
+    let operands = reference::operands(code, cells);
+    let target = if cells[2] == 4 {
+        (at as i64 + 3 + operands[0]).to_string()
+    } else {
+        "-".to_owned()
     };
-    let target = if shape == 4 { (at as i64 + 3 + operands[0]).to_string() } else { "-".to_owned() };
-    let names = &code[place as usize..][..2 * n as usize];
-    operands.extend(names.chunks(2).map(|name| i64::from(u16::from_le_bytes([name[0], name[1]]))));
     let operands: Vec<String> = operands.iter().map(i64::to_string).collect();
-    let operands = if operands.is_empty() { "-".to_owned() } else { operands.join(",") };
+    let operands = if operands.is_empty() {
+        "-".to_owned()
+    } else {
+        operands.join(",")
+    };
     writeln!(text, "{at}\t{name:?}\t{operands}\t{target}").expect("a string takes all");
 }
 
 fn cases(plan: &mut Plan, decoder: &Decoder) -> Vec<(String, Vec<u8>)> {
     let mut cases: Vec<(String, Vec<u8>)> = vec![
         ("nothing".into(), vec![]),
-        ("the document's example".into(), vec![0x06, 0x5a, 0x03, 0x00, 0x08, 0x07, 0x00, 0x05, 0x65]),
+        (
+            "the document's example".into(),
+            vec![0x06, 0x5a, 0x03, 0x00, 0x08, 0x07, 0x00, 0x05, 0x65],
+        ),
         ("no opcode".into(), vec![5, 131, 5]),
         ("cut short".into(), vec![5, 88, 1]),
         ("jump to before the code".into(), vec![88, 0, 128, 5]),
@@ -119,12 +117,21 @@ fn cases(plan: &mut Plan, decoder: &Decoder) -> Vec<(String, Vec<u8>)> {
     for n in [0_u8, 1, 255] {
         let names: Vec<u8> = (0..2 * usize::from(n)).map(|_| plan.random.u8()).collect();
         cases.push((format!("CallFunctionKw, {n} names"), [&[83, 7, n][..], &names].concat()));
-        cases.push((format!("CallAttrKw, {n} names"), [&[85, 1, 2, 9, n][..], &names].concat()));
-        cases.push((format!("CallAttrKw, {n} names, cut"), [&[85, 1, 2, 9, n][..], &names].concat()[..4].to_vec()));
+        cases.push((
+            format!("CallAttrKw, {n} names"),
+            [&[85, 1, 2, 9, n][..], &names].concat(),
+        ));
+        cases.push((
+            format!("CallAttrKw, {n} names, cut"),
+            [&[85, 1, 2, 9, n][..], &names].concat()[..4].to_vec(),
+        ));
     }
     for length in [1, 2, 3, 100, 4_095, 4_096, 65_535, 65_536, 65_537, 70_000] {
         cases.push(("one opcode over and over".into(), vec![105; length]));
-        cases.push(("random whole instructions".into(), whole(decoder, &mut plan.random, length)));
+        cases.push((
+            "random whole instructions".into(),
+            whole(decoder, &mut plan.random, length),
+        ));
         cases.push(("random, cut to the length".into(), random(&mut plan.random, length)));
     }
     for _ in 0..plan.amount(1_500, 60) {

@@ -2,6 +2,8 @@
 //! `proved`, and hands both answers to its tally.
 
 mod assert_flags;
+mod builder;
+mod checks;
 mod damaged;
 mod dead;
 mod decode;
@@ -10,6 +12,7 @@ mod depth_taken;
 mod effect;
 mod header;
 mod instructions;
+mod left;
 mod listing;
 mod lookups;
 mod name;
@@ -22,7 +25,7 @@ use crate::{Plan, original, tally::Tally};
 
 type Area = fn(&mut Tally, &mut Plan);
 
-pub const ALL: [(&str, Area); 15] = [
+pub const ALL: [(&str, Area); 18] = [
     ("shape", shape::run),
     ("effect", effect::run),
     ("taken", taken::run),
@@ -38,6 +41,9 @@ pub const ALL: [(&str, Area); 15] = [
     ("lookups", lookups::run),
     ("header", header::run),
     ("listing", listing::run),
+    ("builder", builder::run),
+    ("checker", checks::run),
+    ("left behind", left::run),
 ];
 
 /// An opcode for a printed case: its number, and its name where it has one.

@@ -4,6 +4,7 @@
 mod builder;
 mod emission;
 mod rules;
+mod sequence;
 
 use std::{
     cell::Cell,
@@ -15,6 +16,7 @@ use monty::bytecode::compiler::CompileError;
 pub use builder::{depth_after, depth_by_mismatch, depth_taken, makes_dead, size};
 pub use emission::{emitted, jump, names_refused};
 pub use rules::{effect, opcode, shape, taken_effect};
+pub use sequence::{Left, Sequence};
 
 thread_local! {
     static CATCHING: Cell<bool> = const { Cell::new(false) };
@@ -47,10 +49,14 @@ fn message_of<T>(call: impl FnOnce() -> T) -> Result<T, String> {
 }
 
 fn refusal_of_panic(message: &str) -> u32 {
-    const REFUSALS: [(&str, u32); 3] = [
+    const REFUSALS: [(&str, u32); 7] = [
         ("wrong operand shape for ", 2),
         (" is not a jump opcode", 3),
         ("Stack depth went negative: ", 4),
+        ("jump merge: arriving with depth ", 11),
+        ("emit_jump_to: cannot jump from live code to dead code", 12),
+        ("enter_region: cannot start new code region ", 15),
+        ("register_local_names must run first", 16),
     ];
     let found = REFUSALS.iter().find(|(part, _)| message.contains(part));
     found
@@ -61,7 +67,10 @@ fn refusal_of_panic(message: &str) -> u32 {
 fn refusal_of_error(error: &CompileError) -> u32 {
     match error.message() {
         "function too large: required stack exceeds u16::MAX" => 5,
+        "function too large: jump offset exceeds i16 range" => 6,
         "call has too many keyword arguments; maximum is 255 per call" => 7,
+        "module has too many distinct names; the bytecode format supports up to 65536 interned strings" => 8,
+        "function has too many constants; maximum is 65536 per function" => 9,
         other => panic!("the Rust gave an error that no refusal stands for: {other}"),
     }
 }

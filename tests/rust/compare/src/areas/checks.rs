@@ -1,0 +1,158 @@
+//! The depth checker through the program `replay`, beside two checkers written from the rules' text: one that carries
+//! depths along, over random code, whole and damaged; and one that tries every assignment, over all short codes of a few
+//! bytes.
+
+use crate::{
+    Plan,
+    random::Random,
+    reference::{Decoder, depths::Depths},
+    script::{self, Refusals, Script},
+    tally::{Expected, Tally},
+};
+
+/// Bytes that stand for what instructions can do: Pop, LoadNone, Jump, JumpIfTrue, JumpIfTrueOrPop, ForIter, ReturnValue,
+/// Raise, Nop; and of displacements, 1 and -3 to -6.
+const BYTES: [u8; 14] = [0, 5, 88, 89, 91, 94, 101, 97, 105, 1, 0xfd, 0xfc, 0xfa, 0xff];
+
+pub fn run(tally: &mut Tally, plan: &mut Plan) {
+    let program = script::program_at("replay");
+    let mut refusals = Refusals::default();
+    let decoder = Decoder::new();
+    let most = plan.amount(4, 3);
+    let mut script = Script::default();
+    for length in 0..=most {
+        each_code(length, &mut |code| {
+            short(tally, &mut script, &decoder, code, length < most)
+        });
+    }
+    script.run(tally, &mut refusals, &program, "short code");
+    let mut script = Script::default();
+    for _ in 0..plan.amount(60_000, 3_000) {
+        long(&mut script, &mut plan.random);
+    }
+    edges(&mut script);
+    script.run(tally, &mut refusals, &program, "long code");
+    println!("{refusals}");
+}
+
+fn each_code(length: usize, visit: &mut impl FnMut(&[u8])) {
+    let mut places = vec![0; length];
+    loop {
+        let code: Vec<u8> = places.iter().map(|&place| BYTES[place]).collect();
+        visit(&code);
+        let Some(at) = places.iter().position(|&place| place + 1 < BYTES.len()) else {
+            return;
+        };
+        places[..at].fill(0);
+        places[at] += 1;
+    }
+}
+
+fn hex(code: &[u8]) -> String {
+    if code.is_empty() {
+        "-".to_owned()
+    } else {
+        code.iter().map(|byte| format!("{byte:02x}")).collect()
+    }
+}
+
+/// One short code with a few starts; with `search`, also by every assignment.
+fn short(tally: &mut Tally, script: &mut Script, decoder: &Decoder, code: &[u8], search: bool) {
+    for starts in [
+        vec![],
+        vec![0, 0],
+        vec![0, 1],
+        vec![0, 1, 1, 1],
+        vec![code.len() as u32, 2, 0, 1],
+        vec![3, 0],
+    ] {
+        let words: String = starts.iter().map(|number| format!(" {number}")).collect();
+        let answer = script.say(format!("check {}{words}", hex(code)));
+        if search {
+            // One byte moves a depth by one at most, and no start is above 2.
+            let searched = Depths::searched(decoder, code, &starts, 2 + code.len() as i64);
+            let carried = Depths::new(decoder, code, &starts, code.len() + 1);
+            let told = |depths: Result<Depths, _>| depths.map(|depths| (depths.count(), depths.held()));
+            tally.compare(told(carried), Expected::by_text(told(searched)), || {
+                format!("{} {words}: {answer}", hex(code))
+            });
+        }
+    }
+}
+
+/// Random instructions with jumps that often lead to instructions, then perhaps a damaged byte.
+fn long(script: &mut Script, random: &mut Random) {
+    let mut code = Vec::new();
+    let mut places = vec![0_u32];
+    for _ in 0..random.below(30) {
+        match random.below(8) {
+            0 => code.extend([88 + [0, 1, 2, 3, 4, 6][random.below(6)], random.below(12) as u8, 0]),
+            1 => code.extend([
+                88 + [0, 1, 2, 3, 4, 6][random.below(6)],
+                255 - random.below(20) as u8,
+                255,
+            ]),
+            2 => code.extend([8, random.u8()]),
+            3 => code.extend([4, random.u8(), random.u8()]),
+            4 => code.push([0, 101, 97, 105][random.below(4)]),
+            5 => code.extend([83, random.below(3) as u8, 1, random.u8(), 0]),
+            _ => code.push(5),
+        }
+        places.push(code.len() as u32);
+    }
+    if random.below(4) == 0 && !code.is_empty() {
+        let at = random.below(code.len());
+        code[at] = random.u8();
+    }
+    let mut starts = String::new();
+    for _ in 0..random.below(4) {
+        let place = if random.below(10) == 0 {
+            random.below(70) as u32
+        } else {
+            places[random.below(places.len())]
+        };
+        let depth = if random.below(12) == 0 {
+            65_530 + random.below(10)
+        } else {
+            random.below(6)
+        };
+        starts += &format!(" {place} {depth}");
+    }
+    let line = if random.below(3) == 0 {
+        format!("check_slice {} {}{starts}", code.len() + random.below(6), hex(&code))
+    } else {
+        format!("check {}{starts}", hex(&code))
+    };
+    script.say(line);
+}
+
+/// The limits of code and slices.
+fn edges(script: &mut Script) {
+    for (bytes, cells) in [
+        (0, 0),
+        (0, 1),
+        (1_000, 1_000),
+        (1_000, 1_001),
+        (131_071, 131_072),
+        (131_072, 131_072),
+    ] {
+        script.say(format!("check_zeros {bytes} {cells}"));
+    }
+    for bytes in [1_048_575, 1_048_576, 1_048_577, 1_048_600, 1_048_601] {
+        script.say(format!("check_zeros {bytes} 131072"));
+    }
+    for line in [
+        "check 05 0",
+        "check 05 0 65536",
+        "check 05 1 65535",
+        "check 05 0 65535",
+        "check 8300",
+        "check 83",
+        "check - 0 0",
+    ] {
+        script.say(line);
+    }
+    script.say(format!("check {}", "05".repeat(4_000)));
+    script.say(format!("check {} 0 0", "05".repeat(4_000)));
+    script.say(format!("check {}", "05".repeat(4_001)));
+}
