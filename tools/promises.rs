@@ -1,5 +1,6 @@
 //! Says which public functions of the library crates lack an `ensures` or have a `requires`, by the text of
-//! crates/*/src alone. Run by the script beside it, from the repository's root.
+//! crates/*/src alone, and holds the list of promises in docs/PROMISES.md against it. Run by the script beside
+//! it, from the repository's root.
 //!
 //! A program owes no promise: only crates with src/lib.rt are looked at. A `pub fn` of a module that lib.rt
 //! declares by plain `mod` is reached by no other crate and counts as private, unless a `pub use` of lib.rt
@@ -11,6 +12,20 @@ use std::{
     process::ExitCode,
 };
 
+/// Where the list stands that is made from the sources.
+const LISTED: &str = "docs/PROMISES.md";
+
+/// What stands before and behind the list.
+const MARKS: [&str; 2] = ["<!-- made by tools/promises --write -->\n", "<!-- end -->\n"];
+
+#[derive(Clone, Copy, PartialEq)]
+enum Task {
+    Count,
+    ListAll,
+    /// Writes the list anew.
+    Write,
+}
+
 #[derive(Default)]
 struct Counts {
     public: usize,
@@ -18,6 +33,8 @@ struct Counts {
     bare: usize,
     demanding: usize,
     private: usize,
+    /// A line of the list for each public function, and its name.
+    lines: Vec<(String, String)>,
 }
 
 #[derive(Debug)]
@@ -26,23 +43,24 @@ struct Function<'a> {
     name: &'a str,
     public: bool,
     exported: bool,
-    ensures: bool,
+    ensures: Vec<&'a str>,
     requires: bool,
 }
 
 fn main() -> ExitCode {
     let words: Vec<String> = env::args().skip(1).collect();
-    let list_all = match words.iter().map(String::as_str).collect::<Vec<_>>()[..] {
-        [] => false,
-        ["--all"] => true,
+    let task = match words.iter().map(String::as_str).collect::<Vec<_>>()[..] {
+        [] => Task::Count,
+        ["--all"] => Task::ListAll,
+        ["--write"] => Task::Write,
         _ => {
-            eprintln!("usage: tools/promises [--all]");
+            eprintln!("usage: tools/promises [--all | --write]");
             return ExitCode::from(2);
         }
     };
     let mut counts = Counts::default();
     for source_folder in entries(Path::new("crates")).into_iter().map(|path| path.join("src")) {
-        look_at_crate(&source_folder, list_all, &mut counts);
+        look_at_crate(&source_folder, task == Task::ListAll, &mut counts);
     }
     let Counts {
         public,
@@ -50,6 +68,7 @@ fn main() -> ExitCode {
         bare,
         demanding,
         private,
+        lines,
     } = counts;
     println!(
         "promises: {public} public functions: {promised} with a promise and no requires, {bare} with no promise, \
@@ -58,11 +77,38 @@ fn main() -> ExitCode {
     if public == 0 {
         println!("promises: found no public function, so nothing was looked at");
     }
-    if public > 0 && promised == public {
+    let listed = listed(&lines, task == Task::Write);
+    if public > 0 && promised == public && listed {
         ExitCode::SUCCESS
     } else {
         ExitCode::FAILURE
     }
+}
+
+/// Whether the list in the docs is what the sources say, and the text before it names each function.
+fn listed(lines: &[(String, String)], write: bool) -> bool {
+    let text = fs::read_to_string(LISTED).expect("the promises are listed");
+    let parts = text.split_once(MARKS[0]).and_then(|(before, rest)| {
+        let (list, behind) = rest.split_once(MARKS[1])?;
+        Some((before, list, behind))
+    });
+    let Some((before, list, behind)) = parts else {
+        println!("promises: {LISTED} has no place for the list");
+        return false;
+    };
+    let made: String = lines.iter().map(|(_, line)| line.as_str()).collect();
+    let made = format!("| Function | What its `ensures` says |\n|---|---|\n{made}");
+    if write {
+        let [open, close] = MARKS;
+        fs::write(LISTED, format!("{before}{open}{made}{close}{behind}")).expect("the list is written");
+    } else if list != made {
+        println!("promises: the list in {LISTED} is not what the sources say: tools/promises --write makes it anew");
+        return false;
+    }
+    let unnamed = lines.iter().filter(|(name, _)| !words(before).iter().any(|(_, word)| word == name));
+    let unnamed: Vec<&str> = unnamed.map(|(name, _)| name.as_str()).collect();
+    unnamed.iter().for_each(|name| println!("promises: {LISTED} has no row for {name}"));
+    unnamed.is_empty()
 }
 
 fn look_at_crate(source_folder: &Path, list_all: bool, counts: &mut Counts) {
@@ -78,8 +124,28 @@ fn look_at_crate(source_folder: &Path, list_all: bool, counts: &mut Counts) {
         for function in functions(&text) {
             let reached = open || hands_on(&root_text, &module, function.name);
             count(&path, &function, reached, list_all, counts);
+            if function.exported || (function.public && reached) {
+                counts.lines.push((function.name.to_owned(), line_of(source_folder, &path, &function)));
+            }
         }
     }
+}
+
+/// A line of the list: where the function is called by, and its promise as it stands in the source.
+fn line_of(source_folder: &Path, path: &Path, function: &Function<'_>) -> String {
+    let crate_name = source_folder.parent().and_then(Path::file_name).expect("src/ stands in a crate");
+    let mut place = crate_name.to_string_lossy().into_owned();
+    if path.file_stem().is_some_and(|stem| stem != "lib") {
+        place = format!("{place}::{}", module_of(source_folder, path));
+    }
+    let promises: Vec<String> = function.ensures.iter().map(|clause| said(clause)).collect();
+    format!("| `{place}::{}` | `{}` |\n", function.name, promises.join("`; `"))
+}
+
+/// What a clause says, without the signs around it.
+fn said(clause: &str) -> String {
+    let inner = clause.split_once('⌜').and_then(|(_, rest)| rest.rsplit_once('⌝')).map_or(clause, |(inner, _)| inner);
+    inner.split_whitespace().collect::<Vec<_>>().join(" ")
 }
 
 fn count(path: &Path, function: &Function<'_>, reached: bool, list_all: bool, counts: &mut Counts) {
@@ -88,9 +154,10 @@ fn count(path: &Path, function: &Function<'_>, reached: bool, list_all: bool, co
         name,
         public,
         exported,
-        ensures,
         requires,
+        ..
     } = function;
+    let ensures = !function.ensures.is_empty();
     if !exported && !(public && reached) {
         counts.private += 1;
         return;
@@ -201,10 +268,10 @@ fn functions(text: &str) -> Vec<Function<'_>> {
         .collect()
 }
 
-/// Whether an `ensures` and a `requires` stand between a function's name and its body. The body is the first
+/// Each `ensures`, and whether a `requires`, between a function's name and its body. The body is the first
 /// brace outside of brackets that no clause opens.
-fn clauses(rest: &str) -> (bool, bool) {
-    let (mut ensures, mut requires) = (false, false);
+fn clauses(rest: &str) -> (Vec<&str>, bool) {
+    let (mut ensures, mut requires) = (Vec::new(), false);
     let (mut at, mut depth) = (0, 0_usize);
     while let Some(c) = rest[at..].chars().next() {
         let word = &rest[at..at + rest[at..].find(|c: char| !c.is_alphanumeric() && c != '_').unwrap_or(0)];
@@ -213,9 +280,12 @@ fn clauses(rest: &str) -> (bool, bool) {
             ')' | ']' => depth -= 1,
             '{' | ';' if depth == 0 => break,
             _ if depth == 0 && ["ensures", "requires", "ghost"].contains(&word) => {
-                ensures |= word == "ensures";
+                let end = at + end_of_braces(&rest[at..]);
+                if word == "ensures" {
+                    ensures.push(&rest[at..end]);
+                }
                 requires |= word == "requires";
-                at += end_of_braces(&rest[at..]);
+                at = end;
                 continue;
             }
             _ => {}
