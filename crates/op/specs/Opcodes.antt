@@ -2,7 +2,7 @@
 -- Assumes nothing.
 use mathlib.Core.Bool.{Bool}
 use mathlib.Core.List.{List, [], _∷_}
-use Prim.Native.Nat.{ℕ}
+use Prim.Native.Nat.{ℕ, _+_}
 use Prim.Native.String.{String}
 use lib.Dec.{leb}
 use lib.ListN.{getD}
@@ -192,6 +192,15 @@ known k = leb k lastOpcode
 -- an opcode's row
 unfoldable pub rowOf : ℕ → Row
 rowOf k = getD table k (op "" None same)
+
+-- the numbers of the rows of a table whose first is number k
+abbrev pub numbersFrom : ℕ → List Row → List ℕ
+numbersFrom k [] = []
+numbersFrom k (r ∷ rs) = k ∷ numbersFrom (k + 1) rs
+
+-- every opcode, in the order of op.rs
+unfoldable pub opcodeNumbers : List ℕ
+opcodeNumbers = numbersFrom 0 table
 
 -- the opcodes that document 01's rules name
 abbrev pub Jump : ℕ
