@@ -1,8 +1,7 @@
 // The calls by name, in groups by what they answer and need. An entry is a call's name, a colon and the letters of its arguments; the
-// number of a call in the modules of the groups is its place here.
+// number of a call in the module of its group is its place behind the first of the group.
 use crate::args;
 use crate::args::Args;
-use crate::args::Command;
 
 // Which call a line names, and its arguments.
 pub struct Query {
@@ -11,121 +10,84 @@ pub struct Query {
     pub args: Args,
 }
 
-// They answer a builder: `emissions`, and the other calls that only do.
+// They need a builder, and make one.
 pub const EMISSIONS: u64 = 0;
 
-pub const CHANGES: u64 = 1;
+pub const JUMPS: u64 = 1;
 
-// They answer a builder and a value.
-pub const MAKERS: u64 = 2;
+pub const HOLDINGS: u64 = 2;
 
 // They change the state, and are lent no table.
 pub const STATES: u64 = 3;
 
-// They leave the state as it is.
+// They leave the state as it is: the lookups, those on a table that the line names, and those with an answer of any length.
 pub const LOOKS: u64 = 4;
 
+pub const CELLS: u64 = 5;
+
+pub const LISTS: u64 = 6;
+
 // They need no builder.
-pub const NEW: u64 = 5;
+pub const NEW: u64 = 7;
 
-pub const RULES: u64 = 6;
+pub const RULES: u64 = 8;
 
-pub const GIVEN: u64 = 7;
+pub const GIVEN: u64 = 9;
 
-pub const UNKNOWN: u64 = 8;
+pub const UNKNOWN: u64 = 10;
 
 // A blank line or a comment.
-pub const QUIET: u64 = 9;
+pub const QUIET: u64 = 11;
 
-fn emissions(line: &[u8]) -> Command {
-    args::command_of(
-        line,
-        b"emit:b emit_u8:bb emit_i8:bi emit_u8_u8:bbb emit_u16:bh emit_u16_u16:bhh emit_u16_u8:bhb emit_u16_u8_u8:bhbb emit_call_builtin_function:bb emit_call_builtin_type:bb emit_raise_unbound_local:w emit_load_local:h emit_store_local:h emit_load_global_callable:hw emit_name_op:bhwb emit_call_function_kw:b emit_call_attr_kw:hb",
-    )
-}
-
-fn changes(line: &[u8]) -> Command {
-    args::command_of(
-        line,
-        b"emit_jump_to:bt patch_jump:t register_local_name:hw register_local_names: build:w add_exception_entry:dddhhk new_code_region:h",
-    )
-}
-
-fn makers(line: &[u8]) -> Command {
-    args::command_of(line, b"emit_jump:b current_jump_target: add_const:d")
-}
-
-fn states(line: &[u8]) -> Command {
-    args::command_of(line, b"set_location:ww tamper:")
-}
-
-fn looks(line: &[u8]) -> Command {
-    args::command_of(
-        line,
-        b"location_for_offset:d find_exception_handler:w constant:d local_name:d current_offset: current_position: stack_depth: is_dead: counts: sum: poke: cells: check_here:",
-    )
-}
-
-fn anew(line: &[u8]) -> Command {
-    args::command_of(line, b"new:")
-}
-
-fn rules(line: &[u8]) -> Command {
-    args::command_of(
-        line,
-        b"shape:b taken:b dead_maker:b decode_assert_flags:b find_in_two:wwwwhhkwwwhhk effect:bs assert_flags:",
-    )
-}
-
-fn given(line: &[u8]) -> Command {
-    args::command_of(line, b"step: check: check_slice:S check_zeros:ZD")
-}
-
-fn asked(group: u64, c: Command) -> Query {
-    let args = c.args;
-    Query {
-        group,
-        k: c.k,
-        args,
+// The group of an entry.
+fn group_of(place: u64) -> u64 {
+    match place {
+        0..=16 => EMISSIONS,
+        17..=20 => JUMPS,
+        21..=26 => HOLDINGS,
+        27..=28 => STATES,
+        29..=37 => LOOKS,
+        38..=39 => CELLS,
+        40..=41 => LISTS,
+        42 => NEW,
+        43..=49 => RULES,
+        _ => GIVEN,
     }
 }
 
-fn find_without(line: &[u8]) -> Query {
-    let n = anew(line);
-    if n.found {
-        return asked(NEW, n);
+// The place of a group's first entry.
+fn first_of(group: u64) -> u64 {
+    match group {
+        EMISSIONS => 0,
+        JUMPS => 17,
+        HOLDINGS => 21,
+        STATES => 27,
+        LOOKS => 29,
+        CELLS => 38,
+        LISTS => 40,
+        NEW => 42,
+        RULES => 43,
+        _ => 50,
     }
-    let r = rules(line);
-    if r.found {
-        return asked(RULES, r);
-    }
-    let g = given(line);
-    if g.found {
-        return asked(GIVEN, g);
-    }
-    asked(UNKNOWN, g)
 }
 
 pub fn find(line: &[u8]) -> Query {
-    let e = emissions(line);
-    if e.found {
-        return asked(EMISSIONS, e);
+    let c = args::command_of(
+        line,
+        b"emit:b emit_u8:bb emit_i8:bi emit_u8_u8:bbb emit_u16:bh emit_u16_u16:bhh emit_u16_u8:bhb emit_u16_u8_u8:bhbb emit_call_builtin_function:bb emit_call_builtin_type:bb emit_raise_unbound_local:w emit_load_local:h emit_store_local:h emit_load_global_callable:hw emit_name_op:bhwb emit_call_function_kw:b emit_call_attr_kw:hb emit_jump_to:bt patch_jump:t emit_jump:b current_jump_target: register_local_name:hw register_local_names: build:w add_exception_entry:dddhhk new_code_region:h add_const:d set_location:ww tamper: location_for_offset:d find_exception_handler:w constant:d local_name:d current_offset: current_position: stack_depth: is_dead: counts: sum: poke: cells: check_here: new: shape:b taken:b dead_maker:b decode_assert_flags:b find_in_two:wwwwhhkwwwhhk effect:bs assert_flags: step: check: check_slice:S check_zeros:ZD",
+    );
+    let args = c.args;
+    if !c.found {
+        return Query {
+            group: UNKNOWN,
+            k: 0,
+            args,
+        };
     }
-    let c = changes(line);
-    if c.found {
-        return asked(CHANGES, c);
+    let group = group_of(c.k);
+    Query {
+        group,
+        k: std::num::wrapping_sub_u64(c.k, first_of(group)),
+        args,
     }
-    let m = makers(line);
-    if m.found {
-        return asked(MAKERS, m);
-    }
-    let s = states(line);
-    if s.found {
-        return asked(STATES, s);
-    }
-    let l = looks(line);
-    if l.found {
-        return asked(LOOKS, l);
-    }
-    find_without(line)
 }

@@ -3,6 +3,7 @@ use crate::args;
 use crate::args::Args;
 use crate::bytes;
 use crate::cells;
+use crate::commands::Query;
 use crate::cursor::Cursor;
 use crate::lists;
 use crate::output;
@@ -76,15 +77,14 @@ fn instruction(
     out: &mut [u8],
     at: usize,
 ) -> usize {
-    let o = reply::ok_two(out, at, opcode as u64, size as u64);
+    let o = reply::two(out, at, b"ok", opcode as u64, size as u64);
     let p = operands(operand, out, o);
     let e = names(named, out, p);
     output::ended(out, e)
 }
 
 fn refused(refusal: Refusal, out: &mut [u8], at: usize) -> usize {
-    let o = reply::refused(out, at, refusal);
-    output::ended(out, o)
+    reply::say(reply::of_refusal(refusal), 0, out, at)
 }
 
 // The step at an offset of the first `size` bytes.
@@ -140,12 +140,12 @@ fn summed(checked: Checked, h: u64, out: &mut [u8], at: usize) -> usize {
 }
 
 fn ok_sum(count: usize, h: u64, out: &mut [u8], at: usize) -> usize {
-    let o = reply::ok_two(out, at, count as u64, h);
+    let o = reply::two(out, at, b"ok", count as u64, h);
     output::ended(out, o)
 }
 
 fn refused_sum(refusal: Refusal, h: u64, out: &mut [u8], at: usize) -> usize {
-    let o = reply::refused(out, at, refusal);
+    let o = reply::refused(reply::of_refusal(refusal), out, at);
     let e = output::number(out, o, h);
     output::ended(out, e)
 }
@@ -263,15 +263,16 @@ fn check_zeros(
 }
 
 pub fn run(
-    k: u64,
+    q: Query,
     line: &[u8],
-    a: Args,
     number: u64,
     zeros: &[u8],
     depths: &mut [u32],
     out: &mut [u8],
     at: usize,
 ) -> usize {
+    let k = q.k;
+    let a = q.args;
     let c = a.next;
     match k {
         0 => step(line, c, number, out, at),

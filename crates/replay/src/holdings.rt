@@ -1,10 +1,13 @@
 // The calls on names, constants, exceptions and starts.
 use crate::args;
 use crate::args::Args;
+use crate::cursor::Cursor;
+use crate::kept;
+use crate::kept::Kept;
 use crate::lists;
+use crate::reply::Reply;
 use crate::tables;
-use crate::tables::Lent;
-use builder::Added;
+use crate::turns;
 use builder::Answer;
 use builder::Builder;
 use builder::entries;
@@ -19,58 +22,56 @@ pub fn kind_of(k: u64) -> HandlerKind {
     HandlerKind::Cleanup
 }
 
+fn register_local_name(slot: u16, name: u32, s: &mut Kept, cells: &mut [u64]) -> Reply {
+    let p = tables::part(tables::NAMES, s[kept::NAMES] as usize, cells.len());
+    let from = p.from;
+    let to = p.to;
+    let b = kept::builder_of(s);
+    let answer = names::register_local_name(b, slot, name, &mut cells[from..to]);
+    kept::settled(answer, s)
+}
+
 fn all_names(b: Builder, given: &[u32], size: usize, table: &mut [u64]) -> Answer {
     let n = tables::least(size, given.len());
     names::register_local_names(b, &given[0..n], table)
 }
 
-fn register_local_names(line: &[u8], a: Args, b: Builder, table: &mut [u64]) -> Answer {
+fn register_local_names(line: &[u8], c: Cursor, s: &mut Kept, cells: &mut [u64]) -> Reply {
     let mut given = [0u32; 300];
-    let next = a.next;
-    let l = lists::list32(line, next, &mut given);
-    all_names(b, &given, l.size, table)
-}
-
-fn on_names(k: u64, line: &[u8], a: Args, b: Builder, table: &mut [u64], marks: &[u32]) -> Answer {
-    let v = a.values;
-    match k {
-        2 => names::register_local_name(b, args::low16(v[0]), args::low32(v[1]), table),
-        3 => register_local_names(line, a, b, table),
-        _ => names::build(b, args::low32(v[0]), table, marks),
-    }
-}
-
-// Those that are lent the names; `build` also reads the marks.
-pub fn run_names(
-    k: u64,
-    line: &[u8],
-    a: Args,
-    b: Builder,
-    l: Lent,
-    cells: &mut [u64],
-    marks: &[u32],
-) -> Answer {
-    let m = tables::least(l.marks, marks.len());
-    let p = tables::part(tables::NAMES, l.names, cells.len());
+    let l = lists::list32(line, c, &mut given);
+    let p = tables::part(tables::NAMES, s[kept::NAMES] as usize, cells.len());
     let from = p.from;
     let to = p.to;
-    on_names(k, line, a, b, &mut cells[from..to], &marks[0..m])
+    let b = kept::builder_of(s);
+    let answer = all_names(b, &given, l.size, &mut cells[from..to]);
+    kept::settled(answer, s)
 }
 
-pub fn add_const(a: Args, b: Builder, l: Lent, cells: &mut [u64]) -> Added {
-    let v = a.values;
-    let p = tables::part(tables::CONSTANTS, l.constants, cells.len());
+fn build(count: u32, s: &mut Kept, cells: &mut [u64], marks: &[u32]) -> Reply {
+    let m = tables::least(s[kept::MARKS] as usize, marks.len());
+    let p = tables::part(tables::NAMES, s[kept::NAMES] as usize, cells.len());
     let from = p.from;
     let to = p.to;
-    entries::add_const(b, v[0], &mut cells[from..to])
+    let b = kept::builder_of(s);
+    let answer = names::build(b, count, &mut cells[from..to], &marks[0..m]);
+    kept::settled(answer, s)
 }
 
-pub fn add_exception_entry(a: Args, b: Builder, l: Lent, rows: &mut [u32]) -> Answer {
-    let v = a.values;
-    let p = tables::part(tables::EXCEPTIONS, l.exceptions, rows.len());
+fn add_const(value: u64, s: &mut Kept, cells: &mut [u64]) -> Reply {
+    let p = tables::part(tables::CONSTANTS, s[kept::CONSTANTS] as usize, cells.len());
     let from = p.from;
     let to = p.to;
-    entries::add_exception_entry(
+    let b = kept::builder_of(s);
+    let answer = entries::add_const(b, value, &mut cells[from..to]);
+    turns::added(answer, s)
+}
+
+fn add_exception_entry(v: [u64; 13], s: &mut Kept, rows: &mut [u32]) -> Reply {
+    let p = tables::part(tables::EXCEPTIONS, s[kept::EXCEPTIONS] as usize, rows.len());
+    let from = p.from;
+    let to = p.to;
+    let b = kept::builder_of(s);
+    let answer = entries::add_exception_entry(
         b,
         v[0] as usize,
         v[1] as usize,
@@ -79,20 +80,44 @@ pub fn add_exception_entry(a: Args, b: Builder, l: Lent, rows: &mut [u32]) -> An
         args::low16(v[4]),
         kind_of(v[5]),
         &mut rows[from..to],
-    )
+    );
+    kept::settled(answer, s)
 }
 
-pub fn new_code_region(a: Args, b: Builder, l: Lent, rows: &mut [u32]) -> Answer {
-    let v = a.values;
-    let p = tables::part(tables::STARTS, l.starts, rows.len());
+fn new_code_region(depth: u16, s: &mut Kept, rows: &mut [u32]) -> Reply {
+    let p = tables::part(tables::STARTS, s[kept::STARTS] as usize, rows.len());
     let from = p.from;
     let to = p.to;
-    regions::new_code_region(b, args::low16(v[0]), &mut rows[from..to])
+    let b = kept::builder_of(s);
+    let answer = regions::new_code_region(b, depth, &mut rows[from..to]);
+    kept::settled(answer, s)
 }
 
-// Whether the words behind the name of a call that only changes are what it takes.
+pub fn run(
+    k: u64,
+    line: &[u8],
+    a: Args,
+    s: &mut Kept,
+    rows: &mut [u32],
+    cells: &mut [u64],
+    marks: &[u32],
+) -> Reply {
+    let v = a.values;
+    let c = a.next;
+    let x = args::low16(v[0]);
+    match k {
+        0 => register_local_name(x, args::low32(v[1]), s, cells),
+        1 => register_local_names(line, c, s, cells),
+        2 => build(args::low32(v[0]), s, cells, marks),
+        3 => add_exception_entry(v, s, rows),
+        4 => new_code_region(x, s, rows),
+        _ => add_const(v[0], s, cells),
+    }
+}
+
+// Whether the words behind the name are what the call takes.
 pub fn is_good(k: u64, line: &[u8], a: Args) -> bool {
-    if k == 3 {
+    if k == 1 {
         let next = a.next;
         return lists::is_list(line, next, 4294967295);
     }

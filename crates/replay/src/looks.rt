@@ -5,14 +5,13 @@ use crate::cells;
 use crate::cursor;
 use crate::cursor::Cursor;
 use crate::cursor::Value;
+use crate::kept;
+use crate::kept::Kept;
 use crate::output;
 use crate::reply;
 use crate::reply::Reply;
-use crate::reply::Seven;
 use crate::states;
 use crate::tables;
-use crate::tables::Lent;
-use builder::Builder;
 use builder::EXCEPTION_CELLS;
 use builder::LOCATION_CELLS;
 use code::Constant;
@@ -32,16 +31,12 @@ fn table(line: &[u8], c: Cursor) -> Value {
     )
 }
 
-fn length_of(k: u64, l: Lent) -> usize {
-    match k {
-        0 => l.code,
-        1 => l.locations,
-        2 => l.exceptions,
-        3 => l.constants,
-        4 => l.names,
-        5 => l.marks,
-        _ => l.starts,
+// How many cells of it are lent.
+fn length_of(k: u64, s: &Kept) -> usize {
+    if 6 < k {
+        return 0;
     }
+    s[kept::CODE + k as usize] as usize
 }
 
 // Where a table begins in its array.
@@ -86,10 +81,10 @@ fn sum_of(k: u64, n: usize, code: &[u8], rows: &[u32], cells: &[u64], marks: &[u
 }
 
 // `sum TABLE`.
-pub fn sum(
+fn sum(
     line: &[u8],
     a: Args,
-    l: Lent,
+    s: &Kept,
     code: &[u8],
     rows: &[u32],
     cells: &[u64],
@@ -101,7 +96,7 @@ pub fn sum(
     if !cursor::done(line, next) {
         return Reply::Bad;
     }
-    let n = length_of(t.number, l);
+    let n = length_of(t.number, s);
     Reply::One(sum_of(t.number, n, code, rows, cells, marks))
 }
 
@@ -154,10 +149,10 @@ fn store(
 }
 
 // `poke TABLE INDEX VALUE`.
-pub fn poke(
+fn poke(
     line: &[u8],
     a: Args,
-    l: Lent,
+    s: &Kept,
     code: &mut [u8],
     rows: &mut [u32],
     cells: &mut [u64],
@@ -172,23 +167,40 @@ pub fn poke(
     }
     let v = rest.values;
     let i = v[0] as usize;
-    if length_of(t.number, l) <= i {
+    if length_of(t.number, s) <= i {
         return Reply::Bad;
     }
     let at = std::num::wrapping_add_usize(base(t.number), i);
     store(t.number, at, v[1], code, rows, cells, marks)
 }
 
+// Those on a table that the line names.
+pub fn touch(
+    k: u64,
+    line: &[u8],
+    a: Args,
+    s: &Kept,
+    code: &mut [u8],
+    rows: &mut [u32],
+    cells: &mut [u64],
+    marks: &mut [u32],
+) -> Reply {
+    if k == 0 {
+        return sum(line, a, s, code, rows, cells, marks);
+    }
+    poke(line, a, s, code, rows, cells, marks)
+}
+
 fn location_reply(row: usize, r: LocationRow) -> Reply {
-    Reply::Many(Seven {
-        a: row as u64,
-        b: r.offset as u64,
-        c: r.start as u64,
-        d: r.end as u64,
-        e: r.focus_present as u64,
-        f: r.focus_start as u64,
-        g: r.focus_end as u64,
-    })
+    Reply::Many(
+        row as u64,
+        r.offset as u64,
+        r.start as u64,
+        r.end as u64,
+        r.focus_present as u64,
+        r.focus_start as u64,
+        r.focus_end as u64,
+    )
 }
 
 fn located(found: Located) -> Reply {
@@ -199,15 +211,15 @@ fn located(found: Located) -> Reply {
 }
 
 fn handler_reply(row: usize, r: HandlerRow) -> Reply {
-    Reply::Many(Seven {
-        a: row as u64,
-        b: r.start as u64,
-        c: r.end as u64,
-        d: r.handler as u64,
-        e: r.depth as u64,
-        f: r.count as u64,
-        g: r.kind as u64,
-    })
+    Reply::Many(
+        row as u64,
+        r.start as u64,
+        r.end as u64,
+        r.handler as u64,
+        r.depth as u64,
+        r.count as u64,
+        r.kind as u64,
+    )
 }
 
 fn handled(found: Handled) -> Reply {
@@ -271,27 +283,40 @@ fn local_name(slot: u64, used: usize, lent: usize, cells: &[u64]) -> Reply {
     name_reply(lookups::local_name(&cells[from..to], slot as usize))
 }
 
-fn lookup(k: u64, a: Args, b: Builder, l: Lent, rows: &[u32], cells: &[u64]) -> Reply {
-    let core = b.core;
-    let v = a.values;
-    let x = v[0];
-    match k {
-        0 => location_for_offset(x, core.locations, l.locations, rows),
-        1 => find_exception_handler(x, b.exceptions, l.exceptions, rows),
-        2 => constant(x, b.constants, l.constants, cells),
-        _ => local_name(x, b.names, l.names, cells),
-    }
-}
-
 // The lookups, and the calls that are lent no table.
-pub fn look(k: u64, a: Args, b: Builder, l: Lent, rows: &[u32], cells: &[u64]) -> Reply {
+pub fn run(k: u64, a: Args, s: &Kept, rows: &[u32], cells: &[u64]) -> Reply {
     if !a.good {
         return Reply::Bad;
     }
-    if 3 < k {
-        return states::query(k, b);
+    let v = a.values;
+    let x = v[0];
+    match k {
+        0 => location_for_offset(
+            x,
+            s[kept::USED_LOCATIONS] as usize,
+            s[kept::LOCATIONS] as usize,
+            rows,
+        ),
+        1 => find_exception_handler(
+            x,
+            s[kept::USED_EXCEPTIONS] as usize,
+            s[kept::EXCEPTIONS] as usize,
+            rows,
+        ),
+        2 => constant(
+            x,
+            s[kept::USED_CONSTANTS] as usize,
+            s[kept::CONSTANTS] as usize,
+            cells,
+        ),
+        3 => local_name(
+            x,
+            s[kept::USED_NAMES] as usize,
+            s[kept::NAMES] as usize,
+            cells,
+        ),
+        _ => states::query(k, s),
     }
-    lookup(k, a, b, l, rows, cells)
 }
 
 fn put8(t: &[u8], from: usize, n: usize, out: &mut [u8], at: usize) -> usize {
@@ -356,7 +381,7 @@ fn cells_line(
 pub fn run_cells(
     line: &[u8],
     a: Args,
-    l: Lent,
+    s: &Kept,
     number: u64,
     code: &[u8],
     rows: &[u32],
@@ -372,7 +397,7 @@ pub fn run_cells(
     let v = rest.values;
     let from = v[0] as usize;
     let to = v[1] as usize;
-    if !is_part(rest.good, from, to, length_of(t.number, l)) {
+    if !is_part(rest.good, from, to, length_of(t.number, s)) {
         return reply::unknown(out, at, number);
     }
     let n = std::num::wrapping_sub_usize(to, from);

@@ -10,6 +10,7 @@ mod given;
 mod holdings;
 mod input;
 mod jumps;
+mod kept;
 mod lists;
 mod looks;
 mod output;
@@ -21,7 +22,7 @@ mod tables;
 mod turns;
 
 use input::Input;
-use session::Session;
+use kept::Kept;
 use tables::Cells;
 use tables::Code;
 use tables::Depths;
@@ -33,7 +34,6 @@ use tables::Zeros;
 struct State {
     going: bool,
     number: u64,
-    session: Session,
     rest: Input,
     at: usize,
 }
@@ -52,6 +52,7 @@ fn settled(rest: Input, out: &[u8], at: usize) -> usize {
 // One line.
 fn turn(
     s: State,
+    kept: &mut Kept,
     code: &mut Code,
     rows: &mut Rows,
     cells: &mut Cells,
@@ -63,7 +64,6 @@ fn turn(
     out: &mut [u8; 65536],
 ) -> State {
     let before = s.rest;
-    let session = s.session;
     let at = settled(before, out, s.at);
     let got = input::next_line(before, buf, line);
     let rest = got.rest;
@@ -72,7 +72,6 @@ fn turn(
         return State {
             going: false,
             number,
-            session,
             rest,
             at,
         };
@@ -80,7 +79,7 @@ fn turn(
     let n = session::line_turn(
         line,
         got.size,
-        session,
+        kept,
         number,
         code,
         rows,
@@ -91,18 +90,17 @@ fn turn(
         out,
         at,
     );
-    let after = n.session;
     State {
         going: true,
         number,
-        session: after,
         rest,
-        at: n.at,
+        at: n,
     }
 }
 
 // All lines. Nothing says that an input ends, so the turns are counted down from a number that no run uses up.
 fn run(
+    kept: &mut Kept,
     code: &mut Code,
     rows: &mut Rows,
     cells: &mut Cells,
@@ -116,14 +114,25 @@ fn run(
     let mut s = State {
         going: true,
         number: 0,
-        session: session::none(),
         rest: Input { from: 0, to: 0 },
         at: 0,
     };
     let mut turns = u64::MAX;
     while turns > 0 {
         turns -= 1;
-        s = turn(s, code, rows, cells, marks, zeros, depths, buf, line, out);
+        s = turn(
+            s,
+            kept,
+            code,
+            rows,
+            cells,
+            marks,
+            zeros,
+            depths,
+            buf,
+            line,
+            out,
+        );
         if !s.going {
             output::flush(out, s.at);
             return;
@@ -132,6 +141,7 @@ fn run(
 }
 
 fn main() {
+    let mut kept = [0u64; 21];
     let mut code = [0u8; 1048640];
     let mut rows = [0u32; 196608];
     let mut cells = [0u64; 131080];
@@ -142,6 +152,7 @@ fn main() {
     let mut line = [0u8; 8193];
     let mut out = [0u8; 65536];
     run(
+        &mut kept,
         &mut code,
         &mut rows,
         &mut cells,

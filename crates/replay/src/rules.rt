@@ -5,7 +5,6 @@ use crate::cursor;
 use crate::holdings;
 use crate::reply;
 use crate::reply::Reply;
-use crate::reply::Seven;
 use code::ExceptionEntry;
 use code::Found;
 use code::HandlerKind;
@@ -24,14 +23,14 @@ use op::shapes;
 fn shape_reply(shaped: Shaped) -> Reply {
     match shaped {
         Shaped::Is(shape) => Reply::One(shapes::number(shape) as u64),
-        Shaped::Refused(refusal) => Reply::Refused(refusal),
+        Shaped::Refused(refusal) => reply::of_refusal(refusal),
     }
 }
 
 fn net_reply(effect: NetEffect) -> Reply {
     match effect {
         NetEffect::Net(net) => Reply::Net(net),
-        NetEffect::Refused(refusal) => Reply::Refused(refusal),
+        NetEffect::Refused(refusal) => reply::of_refusal(refusal),
     }
 }
 
@@ -39,7 +38,7 @@ fn dead_reply(deadness: Deadness) -> Reply {
     match deadness {
         Deadness::Dead => Reply::One(1),
         Deadness::Live => Reply::One(0),
-        Deadness::Refused(refusal) => Reply::Refused(refusal),
+        Deadness::Refused(refusal) => reply::of_refusal(refusal),
     }
 }
 
@@ -66,15 +65,15 @@ fn kind_number(kind: HandlerKind) -> u64 {
 
 fn entry_reply(row: usize, e: ExceptionEntry) -> Reply {
     let kind = e.kind;
-    Reply::Many(Seven {
-        a: row as u64,
-        b: e.start as u64,
-        c: e.end as u64,
-        d: e.handler as u64,
-        e: e.stack_depth as u64,
-        f: e.exception_stack_count as u64,
-        g: kind_number(kind),
-    })
+    Reply::Many(
+        row as u64,
+        e.start as u64,
+        e.end as u64,
+        e.handler as u64,
+        e.stack_depth as u64,
+        e.exception_stack_count as u64,
+        kind_number(kind),
+    )
 }
 
 fn found_reply(found: Found) -> Reply {

@@ -4,11 +4,10 @@ use crate::args::Args;
 use crate::cursor;
 use crate::cursor::Cursor;
 use crate::cursor::Value;
+use crate::kept;
+use crate::kept::Kept;
 use crate::reply;
 use crate::reply::Reply;
-use crate::reply::Seven;
-use builder::Builder;
-use builder::Core;
 use builder::Depth;
 use builder::queries;
 use code::CodeRange;
@@ -32,34 +31,27 @@ fn truth(b: bool) -> Reply {
     Reply::One(0)
 }
 
-fn counts(b: Builder) -> Reply {
-    let core = b.core;
-    Reply::Many(Seven {
-        a: core.code as u64,
-        b: core.locations as u64,
-        c: b.exceptions as u64,
-        d: b.constants as u64,
-        e: b.names as u64,
-        f: core.marks as u64,
-        g: b.starts as u64,
-    })
+fn counts(s: &Kept) -> Reply {
+    Reply::Many(
+        s[kept::USED_CODE],
+        s[kept::USED_LOCATIONS],
+        s[kept::USED_EXCEPTIONS],
+        s[kept::USED_CONSTANTS],
+        s[kept::USED_NAMES],
+        s[kept::USED_MARKS],
+        s[kept::USED_STARTS],
+    )
 }
 
 // Those that only look.
-pub fn query(k: u64, b: Builder) -> Reply {
+pub fn query(k: u64, s: &Kept) -> Reply {
+    let b = kept::builder_of(s);
     match k {
         4 => Reply::One(queries::current_offset(b) as u64),
         5 => position(queries::current_position(b)),
         6 => depth_reply(queries::stack_depth(b)),
         7 => truth(queries::is_dead(b)),
-        _ => counts(b),
-    }
-}
-
-fn range(start: u64, end: u64) -> CodeRange {
-    CodeRange {
-        start: args::low32(start),
-        end: args::low32(end),
+        _ => counts(s),
     }
 }
 
@@ -70,66 +62,25 @@ fn focus_of(line: &[u8], a: Args) -> Focus {
     let next = a.next;
     let rest = args::arguments(line, next, b"ww");
     let v = rest.values;
-    Focus::Present(range(v[0], v[1]))
+    Focus::Present(kept::range(v[0], v[1]))
 }
 
 // `set_location`: a range, or a range and its focus.
-fn set_location(line: &[u8], a: Args, b: Builder) -> Builder {
+fn set_location(line: &[u8], a: Args, s: &mut Kept) -> Reply {
     let v = a.values;
-    queries::set_location(b, range(v[0], v[1]), focus_of(line, a))
+    let focus = focus_of(line, a);
+    let b = queries::set_location(kept::builder_of(s), kept::range(v[0], v[1]), focus);
+    kept::with(b, Reply::Fine, s)
 }
 
-fn at_depth(b: Builder, depth: Depth) -> Builder {
-    let old = b.core;
-    let location = b.location;
-    let core = Core {
-        code: old.code,
-        locations: old.locations,
-        marks: old.marks,
-        depth,
-    };
-    Builder {
-        core,
-        location,
-        exceptions: b.exceptions,
-        constants: b.constants,
-        names: b.names,
-        starts: b.starts,
-    }
-}
-
-fn depth_of(line: &[u8], c: Cursor) -> Depth {
+// The depth as it is kept.
+fn depth_of(line: &[u8], c: Cursor) -> u64 {
     let a = args::arguments(line, c, b"t");
     if a.dead {
-        return Depth::Dead;
+        return 0;
     }
     let v = a.values;
-    Depth::Live(args::low16(v[0]))
-}
-
-// The new count where the table is the one that is meant, else the old.
-fn replaced(table: u64, k: u64, n: usize, old: usize) -> usize {
-    if table == k { n } else { old }
-}
-
-fn with_count(b: Builder, k: u64, n: usize) -> Builder {
-    let old = b.core;
-    let location = b.location;
-    let depth = old.depth;
-    let core = Core {
-        code: replaced(0, k, n, old.code),
-        locations: replaced(1, k, n, old.locations),
-        marks: replaced(5, k, n, old.marks),
-        depth,
-    };
-    Builder {
-        core,
-        location,
-        exceptions: replaced(2, k, n, b.exceptions),
-        constants: replaced(3, k, n, b.constants),
-        names: replaced(4, k, n, b.names),
-        starts: replaced(6, k, n, b.starts),
-    }
+    std::num::wrapping_add_u64(v[0], 1)
 }
 
 // Which count `tamper` means: a table's, or the depth.
@@ -142,15 +93,17 @@ fn tampered(line: &[u8], a: Args) -> Value {
     )
 }
 
-fn tamper(line: &[u8], a: Args, b: Builder) -> Builder {
+fn tamper(line: &[u8], a: Args, s: &mut Kept) -> Reply {
     let t = tampered(line, a);
     let next = t.next;
-    if t.number == 7 {
-        return at_depth(b, depth_of(line, next));
+    if 6 < t.number {
+        s[kept::DEPTH] = depth_of(line, next);
+        return Reply::Fine;
     }
     let rest = args::arguments(line, next, b"d");
     let v = rest.values;
-    with_count(b, t.number, v[0] as usize)
+    s[kept::USED_CODE + t.number as usize] = v[0];
+    Reply::Fine
 }
 
 fn is_depth(line: &[u8], c: Cursor) -> bool {
@@ -181,9 +134,9 @@ pub fn is_good(k: u64, line: &[u8], a: Args) -> bool {
     rest.good
 }
 
-pub fn run(k: u64, line: &[u8], a: Args, b: Builder) -> Builder {
-    match k {
-        0 => set_location(line, a, b),
-        _ => tamper(line, a, b),
+pub fn run(k: u64, line: &[u8], a: Args, s: &mut Kept) -> Reply {
+    if k == 0 {
+        return set_location(line, a, s);
     }
+    tamper(line, a, s)
 }

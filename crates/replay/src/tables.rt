@@ -28,17 +28,6 @@ pub const CONSTANTS: usize = 0;
 
 pub const NAMES: usize = 65540;
 
-// How many cells of each table are lent.
-pub struct Lent {
-    pub code: usize,
-    pub locations: usize,
-    pub exceptions: usize,
-    pub constants: usize,
-    pub names: usize,
-    pub marks: usize,
-    pub starts: usize,
-}
-
 // The smaller number.
 pub fn least(n: usize, most: usize) -> usize
     ensures { λ r. ⌜ r ≤ most ⌝ }

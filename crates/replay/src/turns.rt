@@ -1,8 +1,9 @@
-// What a call with an answer of its own made: the builder that goes on, and the reply.
+// What a call with an answer of its own made: the builder goes back to what is kept, and the value is the reply.
+use crate::kept;
+use crate::kept::Kept;
 use crate::reply;
 use crate::reply::Reply;
 use builder::Added;
-use builder::Builder;
 use builder::JumpLabel;
 use builder::JumpTarget;
 use builder::Jumped;
@@ -22,44 +23,23 @@ fn target(t: JumpTarget) -> Reply {
     }
 }
 
-pub fn jumped(answer: Jumped) -> Reply {
+pub fn jumped(answer: Jumped, s: &mut Kept) -> Reply {
     match answer {
-        Jumped::Made(_, l) => label(l),
-        Jumped::Refused(refusal) => Reply::Refused(refusal),
+        Jumped::Made(b, l) => kept::with(b, label(l), s),
+        Jumped::Refused(refusal) => reply::of_refusal(refusal),
     }
 }
 
-pub fn after_jump(answer: Jumped, b: Builder) -> Builder {
+pub fn targeted(answer: Targeted, s: &mut Kept) -> Reply {
     match answer {
-        Jumped::Made(next, _) => next,
-        Jumped::Refused(_) => b,
+        Targeted::Made(b, t) => kept::with(b, target(t), s),
+        Targeted::Refused(refusal) => reply::of_refusal(refusal),
     }
 }
 
-pub fn targeted(answer: Targeted) -> Reply {
+pub fn added(answer: Added, s: &mut Kept) -> Reply {
     match answer {
-        Targeted::Made(_, t) => target(t),
-        Targeted::Refused(refusal) => Reply::Refused(refusal),
-    }
-}
-
-pub fn after_target(answer: Targeted, b: Builder) -> Builder {
-    match answer {
-        Targeted::Made(next, _) => next,
-        Targeted::Refused(_) => b,
-    }
-}
-
-pub fn added(answer: Added) -> Reply {
-    match answer {
-        Added::Made(_, index) => Reply::One(index as u64),
-        Added::Refused(refusal) => Reply::Refused(refusal),
-    }
-}
-
-pub fn after_added(answer: Added, b: Builder) -> Builder {
-    match answer {
-        Added::Made(next, _) => next,
-        Added::Refused(_) => b,
+        Added::Made(b, index) => kept::with(b, Reply::One(index as u64), s),
+        Added::Refused(refusal) => reply::of_refusal(refusal),
     }
 }

@@ -8,20 +8,15 @@ use Rattle.replay.proofs.run.Tie as tie
 use Rattle.replay.proofs.run.Reads as reads
 use Rattle.replay.proofs.run.Lts as lts
 use Rattle.replay.proofs.output.flush.Reads as flush-reads
-use Rattle.replay.proofs.session.none.Reads as none-reads
 use Rattle.replay.proofs.turn.Reads as turn-reads
 
 abbrev Inv-loop : tie.InvT-loop
-Inv-loop code₀ rows₀ cells₀ marks₀ zeros depths₀ buf₀ line₀ out₀ s₀ turns₀ code rows cells marks depths buf line out s turns =
+Inv-loop kept₀ code₀ rows₀ cells₀ marks₀ zeros depths₀ buf₀ line₀ out₀ s₀ turns₀ kept code rows cells marks depths buf line out s turns =
     Unit {0}
 
 abbrev μ-loop : tie.MeasureT-loop
-μ-loop code₀ rows₀ cells₀ marks₀ zeros depths₀ buf₀ line₀ out₀ s₀ turns₀ code rows cells marks depths buf line out s turns =
+μ-loop kept₀ code₀ rows₀ cells₀ marks₀ zeros depths₀ buf₀ line₀ out₀ s₀ turns₀ kept code rows cells marks depths buf line out s turns =
     turns
-
--- src/main.rt:107:18
-none-requires : tie.Need-none-requires Inv-loop μ-loop
-none-requires c κs = search needs
 
 -- src/main.rt:112:5
 loop-holds : tie.Need-loop-holds Inv-loop μ-loop
@@ -45,7 +40,7 @@ returns c = search needs
 
 -- src/main.rt:112:5
 loop-less : tie.Need-loop-less Inv-loop μ-loop
-loop-less c = omega (arith, c .before .before .before .before .before .before .before .before .before .before .before .loop-test .taken)
+loop-less c = omega (arith, c .before .before .before .before .before .before .before .before .before .before .before .before .loop-test .taken)
 
 -- src/main.rt:112:5
 loop-again : tie.Need-loop-again Inv-loop μ-loop
@@ -61,7 +56,6 @@ run-spec =
     (tie.spec
     Inv-loop
     μ-loop
-    none-requires
     loop-holds
     sub-turns
     turn-requires
