@@ -1,5 +1,5 @@
-//! The opcodes' names in include/tokenfinch.h beside the Rust's: TF_OP_ and the name in upper case, its words parted by
-//! `_`, with its number.
+//! The opcodes' names in include/tokenfinch.h and in crates/op/src/opcodes.rt beside the Rust's: the name in upper case, its
+//! words parted by `_`, with its number. No proof sees a name.
 
 use super::named;
 use crate::{
@@ -8,11 +8,35 @@ use crate::{
 };
 
 const HEADER: &str = include_str!("../../../../../include/tokenfinch.h");
+const OPCODES: &str = include_str!("../../../../../crates/op/src/opcodes.rt");
 
 pub fn run(tally: &mut Tally, _: &mut Plan) {
-    let written = constants(HEADER);
+    names(tally, &constants(HEADER));
+    let last = original::opcode(130).map(|op| upper_snake(&format!("{op:?}")));
+    let mut written = consts(OPCODES);
+    let named_last = OPCODES
+        .split("pub const LAST: u8 = ")
+        .nth(1)
+        .and_then(|rest| rest.split(';').next());
+    tally.compare(named_last, Expected::by_rust(last.as_deref()), || "LAST".to_owned());
+    written.push(("LAST", 130));
+    names(tally, &written);
+}
+
+/// Each `pub const NAME: u8 = number;` of the crate.
+fn consts(text: &str) -> Vec<(&str, u64)> {
+    let items = text.split("pub const ").skip(1);
+    items
+        .filter_map(|item| {
+            let (name, number) = item.split(';').next()?.split_once(": u8 = ")?;
+            Some((name, number.parse().ok()?))
+        })
+        .collect()
+}
+
+fn names(tally: &mut Tally, written: &[(&str, u64)]) {
     for byte in 0..=u8::MAX {
-        let in_header: Vec<&str> = names_of(&written, byte.into()).collect();
+        let in_header: Vec<&str> = names_of(written, byte.into()).collect();
         let by_rust = original::opcode(byte).map(|op| upper_snake(&format!("{op:?}")));
         let by_rust: Vec<&str> = by_rust.iter().map(String::as_str).collect();
         tally.compare(in_header, Expected::by_rust(by_rust), || named(byte));
