@@ -1,5 +1,6 @@
-//! The builder and its tables by the rules' text, written for the comparison without a look at the proved one. Refusals
-//! stand in the text's order, and nothing is changed before the last of them.
+//! The builder and its tables by the rules' text, written for the comparison and not taken from the proved one, but by the
+//! same hands: a misreading of the text could stand in both, and only where the Rust answers too is that shut out. Refusals stand
+//! in the text's order, and nothing is changed before the last of them. Shapes and effects are op.rs's own.
 
 use monty::bytecode::op::Opcode;
 
