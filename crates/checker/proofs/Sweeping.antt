@@ -21,7 +21,7 @@ use Rattle.code.specs.Depths.{Stands, Kept, Falls, Jumps, Derived}
 use Rattle.code.proofs.Places.{stands-one, stands-size}
 use Rattle.checker.specs.Cells.{depthIn, held}
 use Rattle.checker.specs.Inner.{Sound, Stepped, Follows, KeptAt, Fell, Jumped, Relaxed, Swept, Settled}
-use Rattle.checker.proofs.Holding.{in-depth, depth-in, getD-any, held-le}
+use Rattle.checker.proofs.Holding.{in-depth, depth-in, depth-same, getD-any, held-le}
 use Rattle.checker.proofs.Visiting.{still, nothing, stuck}
 
 pub tf : _≡_ {A = Bool} true false → ⊥
@@ -34,37 +34,25 @@ ft z = let y : _≡_ {A = ℕ} 0 1 = cc in omega arith
 pub not-op : (x : Flowing) (f : Flow) → (tagOf the-type x ≡ 1) ⊎ (tagOf the-type x ≡ 2) → x ≡ F.Op f → ⊥
 not-op x f k e = let z : tagOf the-type x ≡ 0 = ap (tagOf the-type) e in ⊎-elim (λ p. omega arith) (λ p. omega arith) k
 
--- steps after steps
+-- a step after a step
 
-pub stepped-out : {c c₁ c₂ : List ℕ} {a b : ℕ} → Stepped c c₁ a → Stepped c₁ c₂ b → Stepped c c₂ 2
-stepped-out {c} {c₁} {c₂} A B = record {
+pub stepped-on : {c c₁ c₂ : List ℕ} {a b : ℕ} → Stepped c c₁ a → Stepped c₁ c₂ b → (r : ℕ) → r ≤ 2 → (r ≤ 1 → (a ≤ 1) × (b ≤ 1) × (r ≤ a + b)) → Stepped c c₂ r
+stepped-on {c} {c₁} {c₂} {a} {b} A B r l n = record {
   size = B .size ∙ A .size;
-  range = omega arith;
-  same = λ e. absurd (omega arith);
-  more = λ e. absurd (omega arith);
+  range = l;
+  grows = λ z. (let k = n z in let g = A .grows (k .0) in let h = B .grows (k .1) in omega arith);
   keeps = λ o d h. B .keeps o d (A .keeps o d h);
 }
 
-pub stepped-one : {c c₁ c₂ : List ℕ} {a b : ℕ} → Stepped c c₁ a → a ≡ 1 → Stepped c₁ c₂ b → (b ≡ 2 → ⊥) → Stepped c c₂ 1
-stepped-one {c} {c₁} {c₂} {a} {b} A e B n = record {
-  size = B .size ∙ A .size;
-  range = omega arith;
-  same = λ z. absurd (omega arith);
-  more = λ z. (let g = A .more e in let k = B .range in elim (ℕ-discrete b 0) [
-    | yes q ↦ subst (λ (x : List ℕ). held c < held x) (sym (B .same q)) g
-    | no q ↦ (let h = B .more (omega arith) in omega arith)
-  ]);
-  keeps = stepped-out A B .keeps;
+-- what was respected stays so
+falls-on : {c c′ : List ℕ} {f : Flow} {o d r : ℕ} → Stepped c c′ r → Falls (depthIn c) f o d → Falls (depthIn c′) f o d
+falls-on A F = record { depth = F .depth; leads = F .leads; has = λ y. A .keeps _ _ (F .has y) }
+
+kept-on : {c c′ : List ℕ} {f : Flow} {o d r : ℕ} → Stepped c c′ r → Kept (depthIn c) f o d → Kept (depthIn c′) f o d
+kept-on {c} {c′} {f} {o} {d} A K = record {
+  falls = falls-on A (K .falls);
+  jumps = λ j. (let J = K .jumps j in record { target = J .target; depth = J .depth; goes = J .goes; leads = J .leads; has = A .keeps _ _ (J .has) });
 }
-
-pub stepped-zero : {c c₁ c₂ : List ℕ} {a b : ℕ} → Stepped c c₁ a → a ≡ 0 → Stepped c₁ c₂ b → Stepped c c₂ b
-stepped-zero {c₂} {b} A e B = subst (λ (x : List ℕ). Stepped x c₂ b) (A .same e) B
-
-pub stepped-last : {c c₁ c₂ : List ℕ} {a b : ℕ} → Stepped c c₁ a → (a ≡ 2 → ⊥) → Stepped c₁ c₂ b → b ≡ 1 → Stepped c c₂ 1
-stepped-last {c} {c₁} {c₂} {a} {b} A n B e = elim (ℕ-discrete a 0) [
-  | yes q ↦ subst (λ (x : ℕ). Stepped c c₂ x) e (stepped-zero A q B)
-  | no q ↦ (let k = A .range in stepped-one A (omega arith) B (λ z. omega arith))
-]
 
 -- one instruction
 
@@ -73,6 +61,7 @@ relaxed-none s c at l g = record {
   step = still c 0 (omega arith) (λ z. omega arith);
   follows = λ st S. nothing S;
   kept = λ z f d h e. absurd (omega (arith, getD-any c at 65536 0 l, in-depth c at d h));
+  ahead = λ z o k. refl;
 }
 
 pub relaxed-fault : (s c : List ℕ) (at : ℕ) → ((f : Flow) → flowOf at (drop at s) ≡ F.Op f → ⊥) → Relaxed s c c at 0
@@ -80,6 +69,7 @@ relaxed-fault s c at n = record {
   step = still c 0 (omega arith) (λ z. omega arith);
   follows = λ st S. nothing S;
   kept = λ z f d h e. absurd (n f (e .is));
+  ahead = λ z o k. refl;
 }
 
 module _ (s c c₁ : List ℕ) (at a : ℕ) (f : Flow) (lc : at < length c) (small : getD c at 0 ≤ 65535) (h : Stands s at f) (A : Fell f c c₁ at (getD c at 0) a) where
@@ -91,49 +81,31 @@ module _ (s c c₁ : List ℕ) (at a : ℕ) (f : Flow) (lc : at < length c) (sma
     step = subst (λ (x : ℕ). Stepped c c₁ x) q (A .step);
     follows = λ st S. stuck c₁ (A .follows s st S (S .derived at _ at-depth) h .stuck q);
     kept = λ z. absurd (omega arith);
+    ahead = λ z. absurd (omega arith);
   }
 
-  module _ (c₂ : List ℕ) (b : ℕ) (n : a ≡ 2 → ⊥) (B : Jumped f c₁ c₂ (getD c at 0) b) where
-    after : (st : List ℕ) → Sound s st c → Follows s st c₂ b
-    after st S =
+  module _ (c₂ : List ℕ) (b : ℕ) (n : a ≡ 2 → ⊥) (B : Jumped f c₁ c₂ at (getD c at 0) b) where
+    respected : b ≤ 1 → Kept (depthIn c₂) f at (getD c at 0)
+    respected z =
         let k = A .step .range in
-        let D : Derived s st at (getD c at 0) = S .derived at _ at-depth in
-        B .follows s st at (A .follows s st S D h .sound (omega arith)) D h
+        record { falls = falls-on (B .step) (A .net (omega arith)); jumps = B .taken z }
 
-    pub relaxed-out-2 : b ≡ 2 → Relaxed s c c₂ at 2
-    relaxed-out-2 q = record {
-      step = stepped-out (A .step) (B .step);
-      follows = λ st S. stuck c₂ (after st S .stuck q);
-      kept = λ z. absurd (omega arith);
-    }
+    one : {x y : ℕ} → depthIn c₂ at ≡ some x → depthIn c₂ at ≡ some y → x ≡ y
+    one {x} {y} p q = cc
 
-    pub relaxed-one : (b ≡ 2 → ⊥) → a ≡ 1 → Relaxed s c c₂ at 1
-    relaxed-one m q = record {
-      step = stepped-one (A .step) q (B .step) m;
-      follows = λ st S. record { sound = λ z. (let k = B .step .range in after st S .sound (omega arith)); stuck = λ z. absurd (omega arith) };
-      kept = λ z. absurd (omega arith);
-    }
-
-    respected : (a ≡ 0) → b ≡ 0 → Kept (depthIn c) f at (getD c at 0)
-    respected i z = record {
-      falls = subst (λ (x : List ℕ). Falls (depthIn x) f at (getD c at 0)) (A .step .same i) (A .net (omega arith));
-      jumps = λ j. subst (λ (x : List ℕ). Jumps (depthIn x) f (getD c at 0)) (B .step .same z ∙ A .step .same i) (B .taken (omega arith) j);
-    }
-
-    pub relaxed-zero : (b ≡ 2 → ⊥) → (a ≡ 1 → ⊥) → Relaxed s c c₂ at b
-    relaxed-zero m q =
+    pub relaxed : Relaxed s c c₂ at b
+    relaxed =
         let k = A .step .range in
-        let i : a ≡ 0 = omega arith in
         record {
-          step = stepped-zero (A .step) i (B .step);
-          follows = after;
+          step = stepped-on (A .step) (B .step) b (B .step .range) (λ z. (omega arith, omega arith, omega arith));
+          follows = λ st S.
+              let D : Derived s st at (getD c at 0) = S .derived at _ at-depth in
+              B .follows s st (A .follows s st S D h .sound (omega arith)) D h;
           kept = λ z g d e y.
-              subst (λ (x : Flow). Kept (depthIn c) x at d) (stands-one h y)
-              (subst (λ (x : ℕ). Kept (depthIn c) f at x) (one at-depth e) (respected i z));
+              subst (λ (x : Flow). Kept (depthIn c₂) x at d) (stands-one h y)
+              (subst (λ (x : ℕ). Kept (depthIn c₂) f at x) (one (B .step .keeps at _ (A .step .keeps at _ at-depth)) e) (respected z));
+          ahead = λ z o l. B .ahead z o l ∙ A .touch .only o (λ y. omega (arith, stands-size h));
         }
-      where
-        one : {x y : ℕ} → depthIn c at ≡ some x → depthIn c at ≡ some y → x ≡ y
-        one {x} {y} p q = cc
 
 -- a sweep
 
@@ -150,15 +122,19 @@ module _ {s c c₁ c₂ : List ℕ} {at m r : ℕ} (A : Swept s c c₁ at m) (sm
 
   pub swept-out : (n : ℕ) → r ≡ 2 → Swept s c c₂ n 2
   swept-out n e = record {
-    step = stepped-out (A .step) (B .step);
+    step = stepped-on (A .step) (B .step) 2 (omega arith) (λ z. absurd (omega arith));
     follows = λ st S. stuck c₂ (swept-on st S .stuck e);
     kept = λ z. absurd (omega arith);
   }
 
+  -- m or 1
+  sound-on : (k : ℕ) → k ≤ 1 → r ≤ 1 → (st : List ℕ) → Sound s st c → Follows s st c₂ k
+  sound-on k l p st S = record { sound = λ z. swept-on st S .sound p; stuck = λ z. absurd (omega arith) }
+
   pub swept-one : r ≡ 1 → Swept s c c₂ (at + 1) 1
   swept-one e = record {
-    step = stepped-last (A .step) (λ z. omega arith) (B .step) e;
-    follows = λ st S. record { sound = λ z. swept-on st S .sound (omega arith); stuck = λ z. absurd (omega arith) };
+    step = stepped-on (A .step) (B .step) 1 (omega arith) (λ z. (small, omega arith, omega arith));
+    follows = sound-on 1 (omega arith) (omega arith);
     kept = λ z. absurd (omega arith);
   }
 
@@ -166,12 +142,14 @@ module _ {s c c₁ c₂ : List ℕ} {at m r : ℕ} (A : Swept s c c₁ at m) (sm
   swept-zero p q =
       let k = B .step .range in
       let i : r ≡ 0 = omega arith in
-      subst (λ (x : List ℕ). Swept s c x (at + 1) m) (sym (B .step .same i))
-      (record {
-        step = A .step;
-        follows = A .follows;
-        kept = λ z. below-more (KeptAt s c₁) at (A .kept z) (B .kept i);
-      })
+      record {
+        step = stepped-on (A .step) (B .step) m (omega arith) (λ z. (small, omega arith, omega arith));
+        follows = sound-on m small (omega arith);
+        kept = λ z.
+            below-more (KeptAt s c₂) at
+            (λ o l f d h e. kept-on (B .step) (A .kept z o l f d (sym (depth-same c₁ c₂ o (B .ahead i o (omega arith))) ∙ h) e))
+            (B .kept (omega arith));
+      }
 
 -- all sweeps
 
@@ -194,7 +172,7 @@ module _ {s c c₁ c₂ : List ℕ} {n r : ℕ} (A : Going s c c₁) (B : Swept 
   pub going-less : (r ≡ 2 → ⊥) → (r ≡ 0 → ⊥) → length c₂ - held c₂ < length c₁ - held c₁
   going-less q p =
       let k = B .step .range in
-      let g = B .step .more (omega arith) in
+      let g = B .step .grows (omega arith) in
       let z = B .step .size in
       omega (arith, held-le c₂)
 

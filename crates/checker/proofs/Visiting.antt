@@ -13,7 +13,7 @@ use Rattle.code.specs.declared.Goal.the-variants.{Nowhere, To, Outside}
 use Rattle.code.specs.Depths.{Place, Impossible, Derived, fall, jump}
 use Rattle.code.proofs.Assigning.{derived-in, leads, leads-is, clash-net, clash-outside, clash-taken}
 use Rattle.checker.specs.Cells.{cell}
-use Rattle.checker.specs.Inner.{Sound, Stepped, Follows, Touched, Landed, Visited, Arrived, Fell, spot, Jumped}
+use Rattle.checker.specs.Inner.{Sound, Stepped, Follows, Touched, Ahead, Landed, Visited, Arrived, Fell, Jumped}
 use Rattle.checker.proofs.Holding.{depth-in, in-depth, cell-set, cell-set-same, cell-set-other, cell-in, getD-any, held-set}
 
 -- changes
@@ -58,10 +58,10 @@ sound-clash {s} {st} {c} {o} {d} S D n u a A =
 -- steps
 
 pub still : (c : List ℕ) (r : ℕ) → r ≤ 2 → (r ≡ 1 → ⊥) → Stepped c c r
-still c r l n = record { size = refl; range = l; same = λ e. refl; more = λ e. absurd (n e); keeps = λ o d h. h }
+still c r l n = record { size = refl; range = l; grows = λ g. omega arith; keeps = λ o d h. h }
 
 pub untouched : (c : List ℕ) (o r : ℕ) → (r ≡ 1 → ⊥) → Touched c c o r
-untouched c o r n = record { only = λ q h. refl; within = λ e. absurd (n e); weigh = λ e. omega arith }
+untouched c o r n = record { same = λ e. refl; only = λ q h. refl; within = λ e. absurd (n e); weigh = λ e. omega arith }
 
 -- nothing is asked, or what is asked cannot be
 pub nothing : {s st c : List ℕ} → Sound s st c → Follows s st c 0
@@ -107,34 +107,51 @@ module _ (c : List ℕ) (o d : ℕ) where
         step = record {
           size = length-set c o d;
           range = omega arith;
-          same = λ z. absurd (omega arith);
-          more = λ z. omega arith;
+          grows = λ z. omega arith;
           keeps = λ q g k. (let i = in-depth c q g k in
               depth-in (set c o d) q g (cell-set-other c o q d (λ z. let y : cell c q ≡ cell c o = ap (cell c) z in omega arith) ∙ i .0) (i .1));
         };
         follows = λ s st S D. record { sound = λ z. sound-set S w D small; stuck = λ z. absurd (omega arith) };
         put = λ z. depth-in (set c o d) o d (cell-set-same c o d l) small;
-        touch = record { only = λ q n. cell-set-other c o q d n; within = λ z. l; weigh = λ z. omega arith };
+        touch = record { same = λ z. absurd (omega arith); only = λ q n. cell-set-other c o q d n; within = λ z. l; weigh = λ z. omega arith };
       }
 
 -- arrivals
 
 module _ (c : List ℕ) (o d : ℕ) (change : Change) (t : ℕ) (L : Landed d change t) where
-  pub arrived-out : 65535 < t → Arrived c c o d change 2
-  arrived-out g = record {
-    step = still c 2 (omega arith) (λ z. omega arith);
-    follows = λ s st S to no-way. stuck c (no-way (L .out g));
-    put = λ z. absurd (omega arith);
-    touch = untouched c o 2 (λ z. omega arith);
-  }
+  pub arrived-out : 65535 < t → Arrived c c o d change 2 × Touched c c o 2
+  arrived-out g = (
+    record {
+      step = still c 2 (omega arith) (λ z. omega arith);
+      follows = λ s st S to no-way. stuck c (no-way (L .out g));
+      put = λ z. absurd (omega arith);
+    },
+    untouched c o 2 (λ z. omega arith),
+  )
 
-  pub arrived-on : (c′ : List ℕ) (r : ℕ) → t ≤ 65535 → Visited c c′ o t r → Arrived c c′ o d change r
-  arrived-on c′ r g W = record {
-    step = W .step;
-    follows = λ s st S to no-way. W .follows s st S (to t (L .leads g));
-    put = λ z. (t, (L .leads g, W .put z));
-    touch = W .touch;
-  }
+  pub arrived-on : (c′ : List ℕ) (r : ℕ) → t ≤ 65535 → Visited c c′ o t r → Arrived c c′ o d change r × Touched c c′ o r
+  arrived-on c′ r g W = (
+    record {
+      step = W .step;
+      follows = λ s st S to no-way. W .follows s st S (to t (L .leads g));
+      put = λ z. (t, (L .leads g, W .put z));
+    },
+    W .touch,
+  )
+
+module _ (c c′ : List ℕ) (at o d : ℕ) (change : Change) (r : ℕ) (W : Arrived c c′ o d change r) (U : Touched c c′ o r) where
+  pub hopped-over : r ≡ 1 → at < o → Arrived c c′ o d change 0 × (_≡_ {A = ℕ} 0 0 → Ahead c c′ at)
+  hopped-over e l = (
+    record {
+      step = record { size = W .step .size; range = omega arith; grows = λ z. (let g = W .step .grows (omega arith) in omega arith); keeps = W .step .keeps };
+      follows = λ s st S to no-way. record { sound = λ z. W .follows s st S to no-way .sound (omega arith); stuck = λ z. absurd (omega arith) };
+      put = λ z. W .put (omega arith);
+    },
+    λ z q k. U .only q (λ y. omega arith),
+  )
+
+  pub hopped : Arrived c c′ o d change r × (r ≡ 0 → Ahead c c′ at)
+  hopped = (W, λ e q k. ap (λ (x : List ℕ). cell x q) (U .same e))
 
 -- falling through
 
@@ -142,12 +159,12 @@ no-both : {b : Bool} → b ≡ true → b ≡ false → ⊥
 no-both p q = let z : _≡_ {A = ℕ} 0 1 = cc in omega arith
 
 module _ (f : Flow) (c : List ℕ) (at d : ℕ) where
-  pub fell-on : (c′ : List ℕ) (r : ℕ) → f .falls ≡ true → Arrived c c′ (at + f .size) d (f .net) r → Fell f c c′ at d r
-  fell-on c′ r fl W = record {
+  pub fell-on : (c′ : List ℕ) (r : ℕ) → f .falls ≡ true → Arrived c c′ (at + f .size) d (f .net) r → Touched c c′ (at + f .size) r → Fell f c c′ at d r
+  fell-on c′ r fl W U = record {
     step = W .step;
     follows = λ s st S D h. W .follows s st S (λ e l. fall D h fl l refl) (clash-net D h);
     net = λ z. (let p = W .put z in record { depth = p .0; leads = p .1 .0; has = λ y. p .1 .1 });
-    touch = W .touch;
+    touch = U;
   }
 
   module _ (t : ℕ) (L : Landed d (f .net) t) where
@@ -169,27 +186,27 @@ module _ (f : Flow) (c : List ℕ) (at d : ℕ) where
 
 -- jumps
 
-module _ (f : Flow) (c : List ℕ) (d : ℕ) where
-  pub jumped-not : f .goal ≡ Nowhere → Jumped f c c d 0
+module _ (f : Flow) (c : List ℕ) (at d : ℕ) where
+  pub jumped-not : f .goal ≡ Nowhere → Jumped f c c at d 0
   jumped-not g = record {
     step = still c 0 (omega arith) (λ z. omega arith);
-    follows = λ s st at S D h. nothing S;
+    follows = λ s st S D h. nothing S;
     taken = λ z y. absurd (y g);
-    touch = untouched c (spot (f .goal)) 0 (λ z. omega arith);
+    ahead = λ z o k. refl;
   }
 
-  pub jumped-outside : f .goal ≡ Outside → Jumped f c c d 2
+  pub jumped-outside : f .goal ≡ Outside → Jumped f c c at d 2
   jumped-outside g = record {
     step = still c 2 (omega arith) (λ z. omega arith);
-    follows = λ s st at S D h. stuck c (clash-outside D h g);
+    follows = λ s st S D h. stuck c (clash-outside D h g);
     taken = λ z. absurd (omega arith);
-    touch = untouched c (spot (f .goal)) 2 (λ z. omega arith);
+    ahead = λ z. absurd (omega arith);
   }
 
-  pub jumped-on : (c′ : List ℕ) (t r : ℕ) → f .goal ≡ To t → Arrived c c′ t d (f .taken) r → Jumped f c c′ d r
-  jumped-on c′ t r g W = record {
+  pub jumped-on : (c′ : List ℕ) (t r : ℕ) → f .goal ≡ To t → Arrived c c′ t d (f .taken) r → (r ≡ 0 → Ahead c c′ at) → Jumped f c c′ at d r
+  jumped-on c′ t r g W U = record {
     step = W .step;
-    follows = λ s st at S D h. W .follows s st S (λ e l. jump D h g l) (clash-taken D h g);
+    follows = λ s st S D h. W .follows s st S (λ e l. jump D h g l) (clash-taken D h g);
     taken = λ z y. (let p = W .put z in record { target = t; depth = p .0; goes = g; leads = p .1 .0; has = p .1 .1 });
-    touch = subst (λ (x : ℕ). Touched c c′ x r) (sym (ap spot g)) (W .touch);
+    ahead = U;
   }

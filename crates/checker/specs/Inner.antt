@@ -11,8 +11,7 @@ use Rattle.op.specs.declared.Refusal.{Refusal}
 use Rattle.op.specs.declared.Refusal.the-variants.{NoDepths}
 use Rattle.code.specs.declared.Change.{Change}
 use Rattle.code.specs.declared.Flow.{Flow}
-use Rattle.code.specs.declared.Goal.{Goal}
-use Rattle.code.specs.declared.Goal.the-variants.{Nowhere, To, Outside}
+use Rattle.code.specs.declared.Goal.the-variants.{Nowhere}
 use Rattle.code.specs.Depths.{Stands, Place, Faulty, Begins, Leads, Falls, Jumps, Kept, Impossible, Derived}
 use Rattle.checker.specs.declared.Checked.{Checked}
 use Rattle.checker.specs.declared.Checked.the-variants.{Accepted, Refused}
@@ -28,12 +27,11 @@ pub record Sound (s st c : List ℕ) : Type 0 where
   pub place : (o : ℕ) → (cell c o ≡ 65536 → ⊥) → Place s o
   pub derived : (o d : ℕ) → depthIn c o ≡ some d → Derived s st o d
 
--- some work answered r: 0 nothing changed, 1 there are more depths, 2 refused
+-- some work answered r: 0 or 1, and with 1 there are more depths; 2 refused
 pub record Stepped (c c′ : List ℕ) (r : ℕ) : Type 0 where
   pub size : length c′ ≡ length c
   pub range : r ≤ 2
-  pub same : r ≡ 0 → c′ ≡ c
-  pub more : r ≡ 1 → held c < held c′
+  pub grows : r ≤ 1 → held c + r ≤ held c′
   pub keeps : (o d : ℕ) → depthIn c o ≡ some d → depthIn c′ o ≡ some d
 
 pub record Follows (s st c′ : List ℕ) (r : ℕ) : Type 0 where
@@ -42,9 +40,14 @@ pub record Follows (s st c′ : List ℕ) (r : ℕ) : Type 0 where
 
 -- only the cell o changed, and where it did, it was in reach and is one depth more
 pub record Touched (c c′ : List ℕ) (o r : ℕ) : Type 0 where
+  pub same : r ≡ 0 → c′ ≡ c
   pub only : (q : ℕ) → (q ≡ o → ⊥) → cell c′ q ≡ cell c q
   pub within : r ≡ 1 → o < length c
   pub weigh : r ≤ 1 → held c′ ≡ held c + r
+
+-- no cell up to `at` changed
+abbrev pub Ahead : List ℕ → List ℕ → ℕ → Type 0
+Ahead c c′ at = (o : ℕ) → o ≤ at → cell c′ o ≡ cell c o
 
 -- the instruction at o is respected, if it has a depth
 abbrev pub KeptAt : List ℕ → List ℕ → ℕ → Type 0
@@ -68,7 +71,6 @@ pub record Arrived (c c′ : List ℕ) (o d : ℕ) (change : Change) (r : ℕ) :
   pub step : Stepped c c′ r
   pub follows : (s st : List ℕ) → Sound s st c → ((e : ℕ) → Leads d change e → Derived s st o e) → (((e : ℕ) → Leads d change e → ⊥) → Impossible s st) → Follows s st c′ r
   pub put : r ≤ 1 → (e : ℕ) × (Leads d change e × (depthIn c′ o ≡ some e))
-  pub touch : Touched c c′ o r
 
 pub record Fell (f : Flow) (c c′ : List ℕ) (at d r : ℕ) : Type 0 where
   pub step : Stepped c c′ r
@@ -76,25 +78,20 @@ pub record Fell (f : Flow) (c c′ : List ℕ) (at d r : ℕ) : Type 0 where
   pub net : r ≤ 1 → Falls (depthIn c′) f at d
   pub touch : Touched c c′ (at + f .size) r
 
--- the offset of a goal; 0 where it has none
-abbrev pub spot : Goal → ℕ
-spot Nowhere = 0
-spot (To t) = t
-spot Outside = 0
-
-pub record Jumped (f : Flow) (c c′ : List ℕ) (d r : ℕ) : Type 0 where
+pub record Jumped (f : Flow) (c c′ : List ℕ) (at d r : ℕ) : Type 0 where
   pub step : Stepped c c′ r
-  pub follows : (s st : List ℕ) (at : ℕ) → Sound s st c → Derived s st at d → Stands s at f → Follows s st c′ r
+  pub follows : (s st : List ℕ) → Sound s st c → Derived s st at d → Stands s at f → Follows s st c′ r
   pub taken : r ≤ 1 → (f .goal ≡ Nowhere → ⊥) → Jumps (depthIn c′) f d
-  pub touch : Touched c c′ (spot (f .goal)) r
+  pub ahead : r ≡ 0 → Ahead c c′ at
 
--- the instruction at `at` is asked for what it asks
+-- the instruction at `at` got what it asks
 pub record Relaxed (s c c′ : List ℕ) (at r : ℕ) : Type 0 where
   pub step : Stepped c c′ r
   pub follows : (st : List ℕ) → Sound s st c → Follows s st c′ r
-  pub kept : r ≡ 0 → KeptAt s c at
+  pub kept : r ≤ 1 → KeptAt s c′ at
+  pub ahead : r ≡ 0 → Ahead c c′ at
 
--- all instructions below `at` are
+-- all instructions below `at` did; with 0 they are respected in the cells as they are now
 pub record Swept (s c c′ : List ℕ) (at r : ℕ) : Type 0 where
   pub step : Stepped c c′ r
   pub follows : (st : List ℕ) → Sound s st c → Follows s st c′ r

@@ -7,7 +7,8 @@ use crate::visits;
 use code::Flowing;
 use code::decoder;
 
-// What the instruction at an offset asks of the places it goes to.
+// What the instruction at an offset asks of the places it goes to. Answers 1 only where a place at or before it got a depth: what
+// lies ahead is still to come in the same sweep.
 fn relax(code: &[u8], cells: &mut [u32], at: usize) -> u8
     requires { ⌜ (length (now code) ≤ 1048576) × (at < length (now code)) × (length (now cells) ≡ suc (length (now code))) ⌝ }
     ensures { λ r. ⌜ Relaxed (now (code .entry)) (now (cells .entry)) (now (cells .exit)) at r ⌝ }
@@ -24,14 +25,7 @@ fn relax(code: &[u8], cells: &mut [u32], at: usize) -> u8
     if a == 2 {
         return 2;
     }
-    let b = visits::leap(cells, d, f);
-    if b == 2 {
-        return 2;
-    }
-    if a == 1 {
-        return 1;
-    }
-    b
+    visits::leap(cells, at, d, f)
 }
 
 // The same of every offset in turn; what is no place has no depth.

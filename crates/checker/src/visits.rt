@@ -2,7 +2,7 @@
 // 2 where there can be no assignment.
 ghost use mathlib.Core.Path.{_≡_};
 ghost use Prim.Native.Nat.{_+_, _<_, _≤_, _^_};
-ghost use Rattle.checker.specs.Inner.{Landed, Visited, Arrived, Fell, Jumped};
+ghost use Rattle.checker.specs.Inner.{Touched, Ahead, Landed, Visited, Arrived, Fell, Jumped};
 use code::Change;
 use code::Flow;
 use code::Goal;
@@ -44,7 +44,7 @@ pub fn visit(cells: &mut [u32], o: usize, d: u32) -> u8
 
 // The cell at `o` gets the depth that a change leads to.
 fn arrive(cells: &mut [u32], o: usize, d: u32, change: Change) -> u8
-    ensures { λ r. ⌜ Arrived (now (cells .entry)) (now (cells .exit)) o d change r ⌝ }
+    ensures { λ r. ⌜ Arrived (now (cells .entry)) (now (cells .exit)) o d change r × Touched (now (cells .entry)) (now (cells .exit)) o r ⌝ }
 {
     let t = land(d, change);
     if 65535 < t {
@@ -71,15 +71,28 @@ pub fn fall(cells: &mut [u32], at: usize, d: u32, f: Flow) -> u8
     0
 }
 
-// The taken jump, if the instruction is one.
-pub fn leap(cells: &mut [u32], d: u32, f: Flow) -> u8
-    ensures { λ r. ⌜ Jumped f (now (cells .entry)) (now (cells .exit)) d r ⌝ }
+// The same from `at` on, but 0 where the cell lies ahead of it.
+fn hop(cells: &mut [u32], at: usize, o: usize, d: u32, change: Change) -> u8
+    ensures { λ r. ⌜ Arrived (now (cells .entry)) (now (cells .exit)) o d change r × (r ≡ 0 → Ahead (now (cells .entry)) (now (cells .exit)) at) ⌝ }
+{
+    let r = arrive(cells, o, d, change);
+    if r == 1 {
+        if at < o {
+            return 0;
+        }
+    }
+    r
+}
+
+// The taken jump, if the instruction is one; 1 as in `hop`.
+pub fn leap(cells: &mut [u32], at: usize, d: u32, f: Flow) -> u8
+    ensures { λ r. ⌜ Jumped f (now (cells .entry)) (now (cells .exit)) at d r ⌝ }
 {
     let taken = f.taken;
     let goal = f.goal;
     match goal {
         Goal::Nowhere => 0,
-        Goal::To(t) => arrive(cells, t, d, taken),
+        Goal::To(t) => hop(cells, at, t, d, taken),
         Goal::Outside => 2,
     }
 }

@@ -5,7 +5,7 @@ use native.Mathlib.Omega.{arith}
 use borrow.Author.Needs.{needs}
 use Rattle.code.specs.Depths.{Stands}
 use Rattle.code.proofs.Places.{stands-size}
-use Rattle.checker.proofs.Sweeping.{not-op, relaxed-none, relaxed-fault, relaxed-out, relaxed-out-2, relaxed-one, relaxed-zero}
+use Rattle.checker.proofs.Sweeping.{not-op, relaxed-none, relaxed-fault, relaxed-out, relaxed}
 use Rattle.checker.proofs.sweeps.relax.Statement.{statement}
 use Rattle.checker.proofs.sweeps.relax.Tie as tie
 
@@ -61,48 +61,16 @@ same-length-2 c = search needs
 
 returns-4 : tie.Need-returns-4
 returns-4 c =
-    let c3 = c .before .before .before in
-    let c5 = c3 .before .before in
-    let c8 = c5 .before .before .before in
-    let c11 = c8 .before .before .before in
-    let c13 = c11 .before .before in
-    let c14 = c13 .before in
-    let c18 = c14 .before .before .before .before in
-    let h : Stands (c18 .args .code .now) (c18 .args .at) (c11 .got .given .0 .0) = record { is = sym (c13 .flow-at .ensures) ∙ c11 .got .given .1 } in
-    relaxed-out-2 (c18 .args .code .now) (c18 .args .cells .now) (c8 .fall .last .0) (c18 .args .at) (c8 .fall .result) (c11 .got .given .0 .0) (omega arith)
-    (c14 .if1 .left) h (c8 .fall .ensures) (c3 .leap .last .0) (c3 .leap .result) (c5 .if2 .left) (c3 .leap .ensures) (c .if3 .taken)
-
-same-length-3 : tie.Need-same-length-3
-same-length-3 c = search needs
-
-returns-5 : tie.Need-returns-5
-returns-5 c =
-    let c4 = c .before .before .before .before in
-    let c6 = c4 .before .before in
-    let c9 = c6 .before .before .before in
-    let c12 = c9 .before .before .before in
-    let c14 = c12 .before .before in
-    let c15 = c14 .before in
-    let c19 = c15 .before .before .before .before in
-    let h : Stands (c19 .args .code .now) (c19 .args .at) (c12 .got .given .0 .0) = record { is = sym (c14 .flow-at .ensures) ∙ c12 .got .given .1 } in
-    relaxed-one (c19 .args .code .now) (c19 .args .cells .now) (c9 .fall .last .0) (c19 .args .at) (c9 .fall .result) (c12 .got .given .0 .0) (omega arith)
-    (c15 .if1 .left) h (c9 .fall .ensures) (c4 .leap .last .0) (c4 .leap .result) (c6 .if2 .left) (c4 .leap .ensures) (c .before .if3 .left) (c .if4 .taken)
-
-same-length-4 : tie.Need-same-length-4
-same-length-4 c = search needs
-
-returns-6 : tie.Need-returns-6
-returns-6 c =
-    let c4 = c .before .before .before .before in
-    let c6 = c4 .before .before in
-    let c9 = c6 .before .before .before in
-    let c12 = c9 .before .before .before in
-    let c14 = c12 .before .before in
-    let c15 = c14 .before in
-    let c19 = c15 .before .before .before .before in
-    let h : Stands (c19 .args .code .now) (c19 .args .at) (c12 .got .given .0 .0) = record { is = sym (c14 .flow-at .ensures) ∙ c12 .got .given .1 } in
-    relaxed-zero (c19 .args .code .now) (c19 .args .cells .now) (c9 .fall .last .0) (c19 .args .at) (c9 .fall .result) (c12 .got .given .0 .0) (omega arith)
-    (c15 .if1 .left) h (c9 .fall .ensures) (c4 .leap .last .0) (c4 .leap .result) (c6 .if2 .left) (c4 .leap .ensures) (c .before .if3 .left) (c .if4 .left)
+    let c2 = c .before .before in
+    let c4 = c2 .before .before in
+    let c7 = c4 .before .before .before in
+    let c10 = c7 .before .before .before in
+    let c12 = c10 .before .before in
+    let c13 = c12 .before in
+    let c17 = c13 .before .before .before .before in
+    let h : Stands (c17 .args .code .now) (c17 .args .at) (c10 .got .given .0 .0) = record { is = sym (c12 .flow-at .ensures) ∙ c10 .got .given .1 } in
+    relaxed (c17 .args .code .now) (c17 .args .cells .now) (c7 .fall .last .0) (c17 .args .at) (c7 .fall .result) (c10 .got .given .0 .0) (omega arith)
+    (c13 .if1 .left) h (c7 .fall .ensures) (c2 .leap .last .0) (c2 .leap .result) (c4 .if2 .left) (c2 .leap .ensures)
 
 pub relax-spec : {M : Type 1} → statement M
 relax-spec =
@@ -119,8 +87,4 @@ relax-spec =
     returns-3
     leap-requires
     same-length-2
-    returns-4
-    same-length-3
-    returns-5
-    same-length-4
-    returns-6)
+    returns-4)

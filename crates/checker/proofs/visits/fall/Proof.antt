@@ -19,7 +19,7 @@ returns c =
     let c2 = c .before .before in
     let c4 = c2 .before .before in
     let c7 = c4 .before .before .before in
-    fell-on (c7 .args .f) (c7 .args .cells .now) (c7 .args .at) (c7 .args .d) (c2 .arrive .last .0) (c2 .arrive .result) (c4 .if1 .taken) (c2 .arrive .ensures)
+    fell-on (c7 .args .f) (c7 .args .cells .now) (c7 .args .at) (c7 .args .d) (c2 .arrive .last .0) (c2 .arrive .result) (c4 .if1 .taken) (c2 .arrive .ensures .0) (c2 .arrive .ensures .1)
 
 land-requires : tie.Need-land-requires
 land-requires c κs = search needs
