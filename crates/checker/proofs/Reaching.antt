@@ -22,9 +22,10 @@ use Rattle.code.specs.declared.Goal.{Goal}
 use Rattle.code.specs.declared.Goal.the-variants.{Nowhere, To, Outside}
 use Rattle.code.specs.Flow.{flowOf}
 use Rattle.code.specs.Depths.{Stands, Place, next, Begins, Derived, start, fall, jump}
+use Rattle.code.proofs.Places.{stands-size}
 use Rattle.checker.specs.declared.Checked.the-variants.{Refused}
 use Rattle.checker.specs.Inner.{NoFault}
-use Rattle.checker.proofs.Walking.{Walking, walking-on, walked-all}
+use Rattle.checker.proofs.Walking.{stands-sized, Walking, walking-on, walked-all}
 
 -- depths that paths of at most k steps lead to
 
@@ -176,6 +177,6 @@ ends-whole zero s at W t = absurd t
 ends-whole (suc k) s at W t = one (flowOf at (drop at s)) refl (λ q. ends-whole k s q) t
   where
     one : (x : Flowing) → flowOf at (drop at s) ≡ x → ((q : ℕ) → Walking s q → T (ends k s q) → NoFault s) → T (endOn (ends k s) at x) → NoFault s
-    one (F.Op f) e later t = later (at + f .size) (walking-on W (record { is = e })) t
+    one (F.Op f) e later t = later (at + f .size) (let h : Stands s at f = record { is = e } in walking-on W (stands-sized h) (λ y. omega (arith, stands-size h))) t
     one F.End e later t = walked-all W e
     one (F.Refused q) e later t = absurd t

@@ -9,22 +9,51 @@ use Prim.Native.Nat.{ℕ, _+_, _*_, _%_, _≤_, _<_}
 use native.Mathlib.Omega.{arith}
 use native.Mathlib.Decide.{decLt}
 use native.Mathlib.Nat.{not-suc-le-zero}
-use denote.Enum.Declared.{tagOf}
 use lib.ListN.{length, drop, getD, set, length-set}
 use borrow.Author.Count.{below-more}
+use Rattle.op.specs.declared.Operand.{Operand}
 use Rattle.op.specs.declared.Refusal.{Refusal}
-use Rattle.code.proofs.Flowing.{the-type}
 use Rattle.code.specs.declared.Flow.{Flow}
 use Rattle.code.specs.declared.Flowing.{Flowing}
 use Rattle.code.specs.declared.Flowing.the-variants as F
-use Rattle.code.specs.Flow.{flowOf}
+use Rattle.code.specs.declared.Step.{Step}
+use Rattle.code.specs.declared.Step.the-variants.{Instr, End, Refused}
+use Rattle.code.specs.Decode.{decode}
+use Rattle.code.specs.Flow.{flowBy, flowOf}
 use Rattle.code.specs.Depths.{Stands, Place, first, next, Faulty, Derived, start}
-use Rattle.code.proofs.Places.{stands-one, stands-size, stands-no-fault, ends-over, place-le, gap, between}
+use Rattle.code.proofs.Flows.{flow-op, flow-end, flow-refused}
+use Rattle.code.proofs.Places.{stands-size, stands-no-fault, ends-over, place-le, gap, between}
 use Rattle.checker.specs.Cells.{cell, depthIn}
 use Rattle.checker.specs.Promise.{Listed}
-use Rattle.checker.specs.Inner.{Sound, Visited, NoFault, Marked, Placed}
+use Rattle.checker.specs.Inner.{Sound, Visited, Sized, stopOf, NoFault, Walked, Marked, Placed}
 use Rattle.checker.proofs.Holding.{cell-set, cell-set-same, cell-set-other, in-depth}
 use Rattle.checker.proofs.Sweeping.{ft, tf}
+
+-- sizes
+
+module _ {s : List ℕ} {at : ℕ} where
+  pub stands-sized : {f : Flow} → Stands s at f → Sized s at (f .size)
+  stands-sized {f} h = record { stands = λ n. (f, (h, refl)); none = λ y. absurd (omega (arith, stands-size h)) }
+
+  pub sized : (k : ℕ) (o : Operand) (z : ℕ) → decode at (drop at s) ≡ Instr k o z → Sized s at z
+  sized k o z e = stands-sized {f = flowBy (at + z) (length s) k o z} (record { is = sym (flow-op at s k o z e) })
+
+  pub sized-end : decode at (drop at s) ≡ End → Sized s at 0
+  sized-end e = record { stands = λ n. absurd (n refl); none = λ y f h. (let i = flow-end at s e in let j = h .is in let z : _≡_ {A = ℕ} 0 1 = cc in omega arith) }
+
+  pub sized-fault : (q : Refusal) → decode at (drop at s) ≡ Refused q → Sized s at 0
+  sized-fault q e = record { stands = λ n. absurd (n refl); none = λ y f h. stands-no-fault h (sym (flow-refused at s q e)) }
+
+  module _ {z : ℕ} (Z : Sized s at z) (n : z ≡ 0 → ⊥) where
+    pub sized-in : (0 < z) × (at + z ≤ length s)
+    sized-in = let g = Z .stands n in let e = g .1 .1 in let h = stands-size (g .1 .0) in (omega arith, omega arith)
+
+    next-place : Place s at → Place s (at + z)
+    next-place p = let g = Z .stands n in next p (g .1 .0) (ap (λ (x : ℕ). at + x) (g .1 .1))
+
+    -- a place before the next one is at or before this
+    next-after : Place s at → (o : ℕ) → Place s o → o < at + z → (o < at) ⊎ (o ≡ at)
+    next-after p o q l = let g = Z .stands n in let e = g .1 .1 in between p (g .1 .0) q (omega arith)
 
 -- a walk for faults: at is a place, and an instruction stands at each place below it
 
@@ -36,12 +65,14 @@ pub record Walking (s : List ℕ) (at : ℕ) : Type 0 where
 pub walking-none : (s : List ℕ) → Walking s 0
 walking-none s = record { here = first; inside = omega arith; below = λ o p l. absurd (not-suc-le-zero l) }
 
-pub walking-on : {s : List ℕ} {at : ℕ} {f : Flow} → Walking s at → Stands s at f → Walking s (at + f .size)
-walking-on {s} {at} {f} A h = record {
-  here = next (A .here) h refl;
-  inside = stands-size h .1;
-  below = λ o p l. ⊎-elim (A .below o p) (λ z. (f, subst (λ (x : ℕ). Stands s x f) (sym z) h)) (between (A .here) h p l);
-}
+pub walking-on : {s : List ℕ} {at z : ℕ} → Walking s at → Sized s at z → (z ≡ 0 → ⊥) → Walking s (at + z)
+walking-on {s} {at} A Z n =
+    let g = Z .stands n in
+    record {
+      here = next-place Z n (A .here);
+      inside = sized-in Z n .1;
+      below = λ o p l. ⊎-elim (A .below o p) (λ e. (g .0, subst (λ (x : ℕ). Stands s x (g .0)) (sym e) (g .1 .0))) (next-after Z n (A .here) o p l);
+    }
 
 -- a fault is no end: the code goes on there
 pub walked-all : {s : List ℕ} {at : ℕ} → Walking s at → flowOf at (drop at s) ≡ F.End → NoFault s
@@ -54,8 +85,10 @@ walked-all {s} {at} A e q B = elim (decLt (B .offset) at) [
     clash : flowOf at (drop at s) ≡ F.Refused q → ⊥
     clash h = let z : _≡_ {A = ℕ} 0 1 = cc in omega arith
 
-pub walked-fault : {s : List ℕ} {at : ℕ} {q : Refusal} → Walking s at → flowOf at (drop at s) ≡ F.Refused q → Faulty s q
-walked-fault {at} A e = record { offset = at; place = A .here; fault = e }
+pub walked : {s : List ℕ} {at : ℕ} → Walking s at → Sized s at 0 → (x : Step) → decode at (drop at s) ≡ x → Walked s (stopOf x)
+walked {s} {at} A Z (Instr k o z) e = absurd (Z .none refl _ (record { is = sym (flow-op at s k o z e) }))
+walked {s} {at} A Z End e = walked-all A (sym (flow-end at s e))
+walked {s} {at} A Z (Refused q) e = record { offset = at; place = A .here; fault = sym (flow-refused at s q e) }
 
 -- looking for the place o: it is not passed
 
@@ -66,14 +99,14 @@ pub record Seeking (s : List ℕ) (o at : ℕ) : Type 0 where
 pub seeking-none : (s : List ℕ) (o : ℕ) → Seeking s o 0
 seeking-none s o = record { here = first; ahead = λ p. omega arith }
 
-pub seeking-on : {s : List ℕ} {o at : ℕ} {f : Flow} → Seeking s o at → at < o → Stands s at f → Seeking s o (at + f .size)
-seeking-on {s} {o} {at} {f} A lo h = record {
-  here = next (A .here) h refl;
-  ahead = λ p. (let g = gap (A .here) p lo in let y : g .0 .size ≡ f .size = ap (λ (x : Flow). x .size) (stands-one (g .1 .0) h) in omega arith);
+pub seeking-on : {s : List ℕ} {o at z : ℕ} → Seeking s o at → at < o → Sized s at z → (z ≡ 0 → ⊥) → Seeking s o (at + z)
+seeking-on {s} {o} {at} {z} A lo Z n = record {
+  here = next-place Z n (A .here);
+  ahead = λ p. elim (decLt o (at + z)) [ yes l ↦ absurd (⊎-elim (λ y. omega arith) (λ y. omega arith) (next-after Z n (A .here) o p l)) | no l ↦ omega arith ];
 }
 
-pub seeking-fault : {s : List ℕ} {o at : ℕ} → Seeking s o at → at < o → ((f : Flow) → flowOf at (drop at s) ≡ F.Op f → ⊥) → Place s o → ⊥
-seeking-fault A lo n p = let g = gap (A .here) p lo in n (g .0) (g .1 .0 .is)
+pub seeking-fault : {s : List ℕ} {o at z : ℕ} → Seeking s o at → at < o → Sized s at z → z ≡ 0 → Place s o → ⊥
+seeking-fault A lo Z e p = let g = gap (A .here) p lo in Z .none e (g .0) (g .1 .0)
 
 -- the start list
 pub starts-listed : {s st : List ℕ} {k : ℕ} → length st % 2 ≡ 0 → length st ≤ 2 * k + 1
@@ -82,18 +115,14 @@ starts-listed e l h = record { even = e; good = λ j g. h j (omega arith) }
 
 -- marks
 
--- what is no instruction is the end or a fault
-stopped : (x : Flowing) → (tagOf the-type x ≡ 1) ⊎ (tagOf the-type x ≡ 2) → (x ≡ F.End) ⊎ ((q : Refusal) × (x ≡ F.Refused q))
-stopped (F.Op f) k = absurd (⊎-elim (λ p. omega arith) (λ p. omega arith) k)
-stopped F.End k = inl refl
-stopped (F.Refused q) k = inr (q, refl)
+-- where no instruction stands, without a fault, is the end
+stopped-by : {s : List ℕ} {at : ℕ} → NoFault s → Place s at → Sized s at 0 → (x : Flowing) → flowOf at (drop at s) ≡ x → length s ≤ at
+stopped-by whole p Z (F.Op f) e = absurd (Z .none refl f (record { is = e }))
+stopped-by {s} {at} whole p Z F.End e = ends-over s at e
+stopped-by {at} whole p Z (F.Refused q) e = absurd (whole q (record { offset = at; place = p; fault = e }))
 
-pub stopped-over : (s : List ℕ) (at : ℕ) (x : Flowing) → NoFault s → Place s at → x ≡ flowOf at (drop at s)
-    → (tagOf the-type x ≡ 1) ⊎ (tagOf the-type x ≡ 2) → length s ≤ at
-stopped-over s at x whole p e k = ⊎-elim
-    (λ z. ends-over s at (sym e ∙ z))
-    (λ z. absurd (whole (z .0) (record { offset = at; place = p; fault = sym e ∙ z .1 })))
-    (stopped x k)
+pub stopped-over : {s : List ℕ} {at z : ℕ} → NoFault s → Place s at → Sized s at z → z ≡ 0 → length s ≤ at
+stopped-over {s} {at} whole p Z e = stopped-by whole p (subst (Sized s at) e Z) (flowOf at (drop at s)) refl
 
 pub record Marking (s c₀ c : List ℕ) (at : ℕ) : Type 0 where
   pub size : length c ≡ length c₀
@@ -112,12 +141,12 @@ module _ {s c₀ c : List ℕ} {at : ℕ} (A : Marking s c₀ c at) (lc : at < l
   put-place : (o : ℕ) → Place s o → (o < at) ⊎ (o ≡ at) → cell (set c at 65537) o ≡ 65537
   put-place o p k = ⊎-elim (λ l. cell-set-other c at o 65537 (λ z. omega arith) ∙ A .place o p l) (λ z. ap (cell (set c at 65537)) z ∙ cell-set-same c at 65537 lc) k
 
-  pub marking-on : (f : Flow) → Stands s at f → Marking s c₀ (set c at 65537) (at + f .size)
-  marking-on f h = record {
+  pub marking-on : {z : ℕ} → Sized s at z → (z ≡ 0 → ⊥) → Marking s c₀ (set c at 65537) (at + z)
+  marking-on Z n = record {
     size = length-set c at 65537 ∙ A .size;
-    here = next (A .here) h refl;
-    inside = stands-size h .1;
-    place = λ o p l. put-place o p (between (A .here) h p l);
+    here = next-place Z n (A .here);
+    inside = sized-in Z n .1;
+    place = λ o p l. put-place o p (next-after Z n (A .here) o p l);
     only = put-only;
   }
 

@@ -12,6 +12,9 @@ use Rattle.op.specs.declared.Refusal.the-variants.{NoDepths}
 use Rattle.code.specs.declared.Change.{Change}
 use Rattle.code.specs.declared.Flow.{Flow}
 use Rattle.code.specs.declared.Goal.the-variants.{Nowhere}
+use Rattle.code.specs.declared.Step.{Step}
+use Rattle.code.specs.declared.Step.the-variants.{Instr, End}
+use Rattle.code.specs.declared.Step.the-variants as S
 use Rattle.code.specs.Depths.{Stands, Place, Faulty, Begins, Leads, Falls, Jumps, Kept, Impossible, Derived}
 use Rattle.checker.specs.declared.Checked.{Checked}
 use Rattle.checker.specs.declared.Checked.the-variants.{Accepted, Refused}
@@ -104,6 +107,17 @@ pub record Settled (s c c′ : List ℕ) (r : Bool) : Type 0 where
   pub sound : r ≡ true → (st : List ℕ) → Sound s st c → Sound s st c′
   pub kept : r ≡ true → (o : ℕ) → KeptAt s c′ o
   pub stuck : r ≡ false → (st : List ℕ) → Sound s st c → Impossible s st
+
+-- the size of the instruction at an offset; 0 where none stands
+pub record Sized (s : List ℕ) (at r : ℕ) : Type 0 where
+  pub stands : (r ≡ 0 → ⊥) → (f : Flow) × (Stands s at f × (f .size ≡ r))
+  pub none : r ≡ 0 → (f : Flow) → Stands s at f → ⊥
+
+-- what a walk meets where no instruction stands
+abbrev pub stopOf : Step → Walk
+stopOf (Instr k o z) = Whole
+stopOf End = Whole
+stopOf (S.Refused q) = Fault q
 
 -- the walk for faults
 abbrev pub NoFault : List ℕ → Type 0

@@ -3,6 +3,7 @@ ghost use Rattle.checker.specs.Promise.{Promise};
 use op::Refusal;
 
 mod cells;
+mod sizes;
 mod solving;
 mod sweeps;
 mod visits;

@@ -1,14 +1,32 @@
 // Walks over the code from its first instruction on: faults, instruction starts, the start list.
 ghost use mathlib.Core.Path.{_≡_};
 ghost use Prim.Native.Nat.{ℕ, suc, _<_, _≤_};
-ghost use lib.ListN.{length};
+ghost use lib.ListN.{length, drop};
+ghost use Rattle.code.specs.Decode.{decode};
 ghost use Rattle.code.specs.Depths.{Place, Faulty};
 ghost use Rattle.checker.specs.Cells.{cell};
 ghost use Rattle.checker.specs.Promise.{Listed};
-ghost use Rattle.checker.specs.Inner.{Walked, NoFault, Tells, Marked};
+ghost use Rattle.checker.specs.Inner.{stopOf, Walked, NoFault, Tells, Marked};
 use crate::Walk;
-use code::Flowing;
+use crate::sizes;
+use code::Step;
 use code::decoder;
+
+// What a walk that can go no further has met.
+fn stop(code: &[u8], at: usize) -> Walk
+    ensures { λ r. ⌜ r ≡ stopOf (decode at (drop at (now (code .entry)))) ⌝ }
+{
+    let step = decoder::step_at(code, at);
+    match step {
+        Step::Instr {
+            opcode: _,
+            operand: _,
+            size: _,
+        } => Walk::Whole,
+        Step::End => Walk::Whole,
+        Step::Refused(refusal) => Walk::Fault(refusal),
+    }
+}
 
 // The first fault, if there is one.
 pub fn walk_all(code: &[u8]) -> Walk
@@ -16,19 +34,11 @@ pub fn walk_all(code: &[u8]) -> Walk
 {
     let mut at = 0;
     loop {
-        let got = decoder::flow_at(code, at);
-        match got {
-            Flowing::Op(f) => {
-                let size = f.size;
-                at += size;
-            }
-            Flowing::End => {
-                return Walk::Whole;
-            }
-            Flowing::Refused(refusal) => {
-                return Walk::Fault(refusal);
-            }
+        let size = sizes::size_at(code, at);
+        if size == 0 {
+            return stop(code, at);
         }
+        at += size;
     }
 }
 
@@ -38,11 +48,10 @@ fn is_place(code: &[u8], o: usize) -> bool
 {
     let mut at = 0;
     while at < o {
-        let got = decoder::flow_at(code, at);
-        let Flowing::Op(f) = got else {
+        let size = sizes::size_at(code, at);
+        if size == 0 {
             return false;
-        };
-        let size = f.size;
+        }
         at += size;
     }
     at == o
@@ -89,11 +98,10 @@ pub fn mark(code: &[u8], cells: &mut [u32])
     let mut at = 0;
     loop {
         cells[at] = 65537;
-        let got = decoder::flow_at(code, at);
-        let Flowing::Op(f) = got else {
+        let size = sizes::size_at(code, at);
+        if size == 0 {
             return;
-        };
-        let size = f.size;
+        }
         at += size;
     }
 }

@@ -1,13 +1,10 @@
 -- `checker::walks::mark` meets its contract: the loop's invariant: the places below `at`, and only places, are marked.
 -- Assumes nothing.
-use mathlib.Core.Path.{sym, _∙_}
 use Prim.Native.Nat.{_-_}
 use native.Mathlib.Omega.{arith}
 use lib.ListN.{length, length-set}
 use borrow.Author.Needs.{needs}
-use Rattle.code.specs.Depths.{Stands}
-use Rattle.code.proofs.Places.{stands-size}
-use Rattle.checker.proofs.Walking.{Marking, marking-none, marking-on, marked-all, stopped-over}
+use Rattle.checker.proofs.Walking.{sized-in, Marking, marking-none, marking-on, marked-all, stopped-over}
 use Rattle.checker.proofs.walks.mark.Statement.{statement}
 use Rattle.checker.proofs.walks.mark.Tie as tie
 
@@ -32,12 +29,8 @@ slice-write-cells : tie.Need-slice-write-cells Inv-loop μ-loop
 slice-write-cells c =
     omega arith
 
-flow-at-requires : tie.Need-flow-at-requires Inv-loop μ-loop
-flow-at-requires c κs =
-    search needs
-
-enum-known-got : tie.Need-enum-known-got Inv-loop μ-loop
-enum-known-got c =
+size-at-requires : tie.Need-size-at-requires Inv-loop μ-loop
+size-at-requires c κs =
     search needs
 
 same-length : tie.Need-same-length Inv-loop μ-loop
@@ -50,34 +43,20 @@ returns c =
     let c2 = c .before .before in
     let c5 = c2 .before .before .before in (
       simp length-set (c2 .loop .inv .size),
-      marked-all (c2 .loop .inv) (omega arith)
-          (stopped-over (c5 .args .code .now) (c2 .loop .at) (c .before .flow-at .result) (c5 .pre .2) (c2 .loop .inv .here) (c .before .flow-at .ensures)
-          (c .match .keys2)),
+      marked-all (c2 .loop .inv) (omega arith) (stopped-over (c5 .pre .2) (c2 .loop .inv .here) (c .before .size-at .ensures) (c .if1 .taken)),
     )
 
 add-at : tie.Need-add-at Inv-loop μ-loop
 add-at c =
-    let c3 = c .before .before .before in
-    let c4 = c3 .before in
-    let c7 = c4 .before .before .before in
-    let h : Stands (c7 .args .code .now) (c4 .loop .at) (c .before .got .given .0 .0) = record { is = sym (c3 .flow-at .ensures) ∙ c .before .got .given .1 } in
-    omega (arith, stands-size h)
+    omega (arith, sized-in (c .before .size-at .ensures) (c .if1 .left))
 
 loop-less : tie.Need-loop-less Inv-loop μ-loop
 loop-less c =
-    let c3 = c .before .before .before in
-    let c4 = c3 .before in
-    let c7 = c4 .before .before .before in
-    let h : Stands (c7 .args .code .now) (c4 .loop .at) (c .before .got .given .0 .0) = record { is = sym (c3 .flow-at .ensures) ∙ c .before .got .given .1 } in
-    omega (arith, stands-size h)
+    omega (arith, sized-in (c .before .size-at .ensures) (c .if1 .left))
 
 loop-again : tie.Need-loop-again Inv-loop μ-loop
 loop-again c =
-    let c3 = c .before .before .before in
-    let c4 = c3 .before in
-    let c7 = c4 .before .before .before in
-    let h : Stands (c7 .args .code .now) (c4 .loop .at) (c .before .got .given .0 .0) = record { is = sym (c3 .flow-at .ensures) ∙ c .before .got .given .1 } in
-    marking-on (c4 .loop .inv) (omega arith) (c .before .got .given .0 .0) h
+    marking-on (c .before .before .loop .inv) (omega arith) (c .before .size-at .ensures) (c .if1 .left)
 
 pub mark-spec : {M : Type 1} → statement M
 mark-spec =
@@ -88,8 +67,7 @@ mark-spec =
     loop-holds
     mul-cells
     slice-write-cells
-    flow-at-requires
-    enum-known-got
+    size-at-requires
     same-length
     returns
     add-at

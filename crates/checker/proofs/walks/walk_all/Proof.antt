@@ -1,13 +1,13 @@
 -- `checker::walks::walk_all` meets its contract: the loop's invariant: `at` is a place, and an instruction stands at each place below it.
 -- Assumes nothing.
-use mathlib.Core.Path.{sym, _∙_}
+use mathlib.Core.Path.{refl, sym, subst}
 use Prim.Native.Nat.{_-_}
 use native.Mathlib.Omega.{arith}
 use lib.ListN.{length}
 use borrow.Author.Needs.{needs}
-use Rattle.code.specs.Depths.{Stands}
-use Rattle.code.proofs.Places.{stands-size}
-use Rattle.checker.proofs.Walking.{Walking, walking-none, walking-on, walked-all, walked-fault}
+use Rattle.checker.specs.declared.Walk.{Walk}
+use Rattle.checker.specs.Inner.{Sized, Walked}
+use Rattle.checker.proofs.Walking.{sized-in, Walking, walking-none, walking-on, walked}
 use Rattle.checker.proofs.walks.walk_all.Statement.{statement}
 use Rattle.checker.proofs.walks.walk_all.Tie as tie
 
@@ -23,53 +23,31 @@ loop-holds : tie.Need-loop-holds Inv-loop μ-loop
 loop-holds c =
     walking-none _
 
-flow-at-requires : tie.Need-flow-at-requires Inv-loop μ-loop
-flow-at-requires c κs = search needs
+size-at-requires : tie.Need-size-at-requires Inv-loop μ-loop
+size-at-requires c κs = search needs
 
-enum-known-got : tie.Need-enum-known-got Inv-loop μ-loop
-enum-known-got c = search needs
-
-add-at : tie.Need-add-at Inv-loop μ-loop
-add-at c =
-    let c3 = c .before .before .before in
-    let c4 = c3 .before in
-    let c6 = c4 .before .before in
-    let h : Stands (c6 .args .code .now) (c4 .loop .at) (c .before .got .given .0 .0) = record { is = sym (c3 .flow-at .ensures) ∙ c .before .got .given .1 } in
-    omega (arith, stands-size h)
-
-loop-less : tie.Need-loop-less Inv-loop μ-loop
-loop-less c =
-    let c3 = c .before .before .before in
-    let c4 = c3 .before in
-    let c6 = c4 .before .before in
-    let h : Stands (c6 .args .code .now) (c4 .loop .at) (c .before .got .given .0 .0) = record { is = sym (c3 .flow-at .ensures) ∙ c .before .got .given .1 } in
-    omega (arith, stands-size h)
-
-loop-again : tie.Need-loop-again Inv-loop μ-loop
-loop-again c =
-    let c3 = c .before .before .before in
-    let c4 = c3 .before in
-    let c6 = c4 .before .before in
-    let h : Stands (c6 .args .code .now) (c4 .loop .at) (c .before .got .given .0 .0) = record { is = sym (c3 .flow-at .ensures) ∙ c .before .got .given .1 } in
-    walking-on (c4 .loop .inv) h
-
-enum-told : tie.Need-enum-told Inv-loop μ-loop
-enum-told c = search needs
+stop-requires : tie.Need-stop-requires Inv-loop μ-loop
+stop-requires c κs = search needs
 
 returns : tie.Need-returns Inv-loop μ-loop
 returns c =
     let c2 = c .before .before in
     let c3 = c2 .before in
-    walked-all (c3 .loop .inv) (sym (c2 .flow-at .ensures) ∙ c .enum-told .given .1)
+    let c5 = c3 .before .before in
+    subst (λ (x : Walk). Walked (c5 .args .code .now) x) (sym (c .stop .ensures))
+    (walked (c3 .loop .inv) (subst (Sized (c5 .args .code .now) (c3 .loop .at)) (c .before .if1 .taken) (c2 .size-at .ensures)) _ refl)
 
-enum-known-got-2 : tie.Need-enum-known-got-2 Inv-loop μ-loop
-enum-known-got-2 c = search needs
+add-at : tie.Need-add-at Inv-loop μ-loop
+add-at c =
+    omega (arith, sized-in (c .before .size-at .ensures) (c .if1 .left))
 
-returns-2 : tie.Need-returns-2 Inv-loop μ-loop
-returns-2 c =
-    let c3 = c .before .before .before in
-    let c4 = c3 .before in
-    walked-fault (c4 .loop .inv) (sym (c3 .flow-at .ensures) ∙ c .before .got2 .given .1)
+loop-less : tie.Need-loop-less Inv-loop μ-loop
+loop-less c =
+    omega (arith, sized-in (c .before .size-at .ensures) (c .if1 .left))
+
+loop-again : tie.Need-loop-again Inv-loop μ-loop
+loop-again c =
+    walking-on (c .before .before .loop .inv) (c .before .size-at .ensures) (c .if1 .left)
 
 pub walk-all-spec : {M : Type 1} → statement M
 walk-all-spec =
@@ -78,12 +56,9 @@ walk-all-spec =
     Inv-loop
     μ-loop
     loop-holds
-    flow-at-requires
-    enum-known-got
+    size-at-requires
+    stop-requires
+    returns
     add-at
     loop-less
-    loop-again
-    enum-told
-    returns
-    enum-known-got-2
-    returns-2)
+    loop-again)
