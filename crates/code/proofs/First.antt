@@ -4,7 +4,7 @@ use Prim.Native.Nat.{ℕ, zero, suc, _+_, _≤_, _<_}
 use borrow.Author.Count.{below-none, below-more}
 use native.Mathlib.Omega.{arith}
 use mathlib.Core.Bool.{Bool, true, false}
-use mathlib.Core.Path.{_≡_, refl, ap, sym}
+use mathlib.Core.Path.{_≡_, refl, ap, sym, subst, _∙_}
 use Rattle.op.specs.Choice.{pick}
 use Rattle.code.specs.Rows.{first}
 
@@ -88,6 +88,17 @@ module _ (test : ℕ → Bool) (n : ℕ) where
         below = p .below;
         hit = λ lt. let no : ⊥ = omega arith in absurd no;
       }))
+
+  -- two rows more, and the last row by itself
+  pub passed-two : (i : ℕ) → Passed test n i → i + 1 < n → test i ≡ false → test (i + 1) ≡ false → Passed test n (i + 2)
+  passed-two i p lt miss also =
+      let e : i + 1 + 1 ≡ i + 2 = omega arith in
+      subst (Passed test n) e (passed-more (i + 1) (passed-more i p (omega arith) miss) lt also)
+
+  pub passed-last : (i : ℕ) → Passed test n i → i < n → n ≤ i + 1 → test i ≡ false → n ≡ first test n
+  passed-last i p lt le miss =
+      let e : n ≡ i + 1 = omega arith in
+      e ∙ passed-all (i + 1) (passed-more i p lt miss) le
 
 -- tests that agree have the same first row
 pub first-same : (test other : ℕ → Bool) (n : ℕ) → ((k : ℕ) → test k ≡ other k) → first test n ≡ first other n

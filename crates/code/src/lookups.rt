@@ -39,19 +39,28 @@ fn location_row(rows: &[u32], row: usize) -> LocationRow
     }
 }
 
-// The first row whose offset is greater, or the number of rows.
+// The first row whose offset is greater, or the number of rows. Two rows a turn, so that half as many turns are counted.
 fn first_greater(rows: &[u32], offset: usize) -> usize
     ensures { λ r. ⌜ r ≡ firstGreater (now (rows .entry)) offset ⌝ }
 {
     let count = rows.len() / LOCATION_WIDTH;
     let mut row: usize = 0;
-    while row < count {
+    while row + 1 < count {
         if offset < cell_of(rows, LOCATION_WIDTH, row, 0) as usize {
             return row;
         }
-        row += 1;
+        if offset < cell_of(rows, LOCATION_WIDTH, row + 1, 0) as usize {
+            return row + 1;
+        }
+        row += 2;
     }
-    row
+    if row == count {
+        return count;
+    }
+    if offset < cell_of(rows, LOCATION_WIDTH, row, 0) as usize {
+        return row;
+    }
+    count
 }
 
 // The row before the first row whose offset is greater, or the last row if none is. A scan, and no binary search as in the Rust, so that this holds
