@@ -2,7 +2,7 @@
 ghost use mathlib.Core.Path.{_≡_};
 ghost use Prim.Native.Nat.{_<_};
 ghost use Rattle.code.specs.Rows.{rowCount, cell};
-ghost use Rattle.code.specs.Lookups.{locationWidth, handlerWidth, locationRow, handlerRow, firstGreater, coversOf, firstCovering, locationOf, handlerOf, constantOf, localNameOf};
+ghost use Rattle.code.specs.Lookups.{locationWidth, handlerWidth, locationRow, handlerRow, firstGreater, coversOf, covering, firstCovering, locationOf, handlerOf, constantOf, localNameOf};
 use crate::Constant;
 use crate::Handled;
 use crate::HandlerRow;
@@ -103,21 +103,38 @@ pub(crate) fn covers(start: u32, end: u32, offset: u32) -> bool
     false
 }
 
-// The first row whose range holds the offset, or the number of rows.
+// Whether a row's range holds the offset.
+fn row_covers(rows: &[u32], row: usize, offset: u32) -> bool
+    requires { ⌜ row < rowCount handlerWidth (now rows) ⌝ }
+    ensures { λ r. ⌜ r ≡ covering (now (rows .entry)) offset row ⌝ }
+{
+    let start = cell_of(rows, HANDLER_WIDTH, row, 0);
+    let end = cell_of(rows, HANDLER_WIDTH, row, 1);
+    covers(start, end, offset)
+}
+
+// The first row whose range holds the offset, or the number of rows. Two rows a turn, as in `first_greater`.
 fn first_covering(rows: &[u32], offset: u32) -> usize
     ensures { λ r. ⌜ r ≡ firstCovering (now (rows .entry)) offset ⌝ }
 {
     let count = rows.len() / HANDLER_WIDTH;
     let mut row: usize = 0;
-    while row < count {
-        let start = cell_of(rows, HANDLER_WIDTH, row, 0);
-        let end = cell_of(rows, HANDLER_WIDTH, row, 1);
-        if covers(start, end, offset) {
+    while row + 1 < count {
+        if row_covers(rows, row, offset) {
             return row;
         }
-        row += 1;
+        if row_covers(rows, row + 1, offset) {
+            return row + 1;
+        }
+        row += 2;
     }
-    row
+    if row == count {
+        return count;
+    }
+    if row_covers(rows, row, offset) {
+        return row;
+    }
+    count
 }
 
 // The first row, in insertion order, with start <= offset < end.
