@@ -175,9 +175,9 @@ pub record Placing (st c₀ c : List ℕ) (k : ℕ) : Type 0 where
 pub placing-none : (st c : List ℕ) → Placing st c c 0
 placing-none st c = record { size = refl; has = λ j l. absurd (not-suc-le-zero l); sound = λ s S. S }
 
-module _ {st c₀ c c₁ : List ℕ} {k r o : ℕ} (A : Placing st c₀ c k) (lk : 2 * k + 1 < length st) (eo : o ≡ getD st (2 * k) 0) (B : Visited c c₁ o (getD st (2 * k + 1) 0) r) where
-  from-start : (s : List ℕ) → Derived s st o (getD st (2 * k + 1) 0)
-  from-start s = start (record { row = k; inside = lk; offset = sym eo; depth = refl })
+module _ {st c₀ c c₁ : List ℕ} {k r o d : ℕ} (A : Placing st c₀ c k) (lk : 2 * k + 1 < length st) (eo : o ≡ getD st (2 * k) 0) (ed : d ≡ getD st (2 * k + 1) 0) (B : Visited c c₁ o d r) where
+  from-start : (s : List ℕ) → Derived s st o d
+  from-start s = start (record { row = k; inside = lk; offset = sym eo; depth = sym ed })
 
   pub placing-on : (r ≡ 2 → ⊥) → Placing st c₀ c₁ (k + 1)
   placing-on n =
@@ -186,7 +186,7 @@ module _ {st c₀ c c₁ : List ℕ} {k r o : ℕ} (A : Placing st c₀ c k) (lk
         size = B .step .size ∙ A .size;
         has = below-more (λ j. depthIn c₁ (getD st (2 * j) 0) ≡ some (getD st (2 * j + 1) 0)) k
             (λ j l. B .step .keeps (getD st (2 * j) 0) _ (A .has j l))
-            (ap (depthIn c₁) (sym eo) ∙ B .put (omega arith));
+            (ap (depthIn c₁) (sym eo) ∙ B .put (omega arith) ∙ ap some ed);
         sound = λ s S. B .follows s st (A .sound s S) (from-start s) .sound (omega arith);
       }
 

@@ -19,9 +19,9 @@ fn begin(starts: &[u32], cells: &mut [u32]) -> bool
     let half = starts.len() / 2;
     let mut k = 0;
     while k < half {
-        let o = starts[2 * k];
-        let d = starts[2 * k + 1];
-        let r = visits::visit(cells, walks::index(o), d);
+        let o = walks::start_offset(starts, k);
+        let d = walks::start_depth(starts, k);
+        let r = visits::visit(cells, o, d);
         if r == 2 {
             return false;
         }

@@ -1,7 +1,7 @@
 // Walks over the code from its first instruction on: faults, instruction starts, the start list.
 ghost use mathlib.Core.Path.{_≡_};
-ghost use Prim.Native.Nat.{ℕ, suc, _<_, _≤_};
-ghost use lib.ListN.{length, drop};
+ghost use Prim.Native.Nat.{ℕ, suc, _+_, _*_, _<_, _≤_};
+ghost use lib.ListN.{length, drop, getD};
 ghost use Rattle.code.specs.Decode.{decode};
 ghost use Rattle.code.specs.Depths.{Place, Faulty};
 ghost use Rattle.checker.specs.Cells.{cell};
@@ -58,10 +58,26 @@ fn is_place(code: &[u8], o: usize) -> bool
 }
 
 // A u32 as an index.
-pub fn index(x: u32) -> usize
+fn index(x: u32) -> usize
     ensures { λ r. ⌜ r ≡ x ⌝ }
 {
     x as usize
+}
+
+// The offset of start k.
+pub fn start_offset(starts: &[u32], k: usize) -> usize
+    requires { ⌜ 2 * k + 1 < length (now starts) ⌝ }
+    ensures { λ r. ⌜ r ≡ getD (now (starts .entry)) (2 * k) 0 ⌝ }
+{
+    index(starts[2 * k])
+}
+
+// Its depth.
+pub fn start_depth(starts: &[u32], k: usize) -> u32
+    requires { ⌜ 2 * k + 1 < length (now starts) ⌝ }
+    ensures { λ r. ⌜ r ≡ getD (now (starts .entry)) (2 * k + 1) 0 ⌝ }
+{
+    starts[2 * k + 1]
 }
 
 // Whether the start list is one that can be.
@@ -75,12 +91,10 @@ pub fn starts_fine(code: &[u8], starts: &[u32]) -> bool
     let half = n / 2;
     let mut k = 0;
     while k < half {
-        let o = starts[2 * k];
-        let d = starts[2 * k + 1];
-        if 65535 < d {
+        if 65535 < start_depth(starts, k) {
             return false;
         }
-        let ok = is_place(code, index(o));
+        let ok = is_place(code, start_offset(starts, k));
         if ok {
             k += 1;
         } else {

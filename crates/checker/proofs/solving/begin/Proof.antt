@@ -3,7 +3,6 @@
 use mathlib.Core.Path.{_∙_}
 use Prim.Native.Nat.{_-_, _≤_}
 use native.Mathlib.Omega.{arith}
-use borrow.Author.Needs.{needs}
 use Rattle.checker.proofs.Walking.{Placing, placing-none, placing-on, placed-no, placed-yes}
 use Rattle.checker.proofs.solving.begin.Statement.{statement}
 use Rattle.checker.proofs.solving.begin.Tie as tie
@@ -20,49 +19,30 @@ loop-holds : tie.Need-loop-holds Inv-loop μ-loop
 loop-holds c =
     (omega arith, placing-none _ _)
 
-mul-o : tie.Need-mul-o Inv-loop μ-loop
-mul-o c = omega arith
+start-offset-requires : tie.Need-start-offset-requires Inv-loop μ-loop
+start-offset-requires c κs = omega arith
 
-mul-o-2 : tie.Need-mul-o-2 Inv-loop μ-loop
-mul-o-2 c = omega arith
-
-shared-slice-read-o : tie.Need-shared-slice-read-o Inv-loop μ-loop
-shared-slice-read-o c = omega arith
-
-mul-d : tie.Need-mul-d Inv-loop μ-loop
-mul-d c = omega arith
-
-add-d : tie.Need-add-d Inv-loop μ-loop
-add-d c = omega arith
-
-mul-d-2 : tie.Need-mul-d-2 Inv-loop μ-loop
-mul-d-2 c = omega arith
-
-shared-slice-read-d : tie.Need-shared-slice-read-d Inv-loop μ-loop
-shared-slice-read-d c = omega arith
-
-index-requires : tie.Need-index-requires Inv-loop μ-loop
-index-requires c κs =
-    search needs
+start-depth-requires : tie.Need-start-depth-requires Inv-loop μ-loop
+start-depth-requires c κs = omega arith
 
 visit-requires : tie.Need-visit-requires Inv-loop μ-loop
 visit-requires c κs =
-    let c5 = c .before .before .before .before .before in
-    let c8 = c5 .before .before .before in
-    c8 .pre (c5 .loop .k) (omega arith)
+    let c4 = c .before .before .before .before in
+    let c7 = c4 .before .before .before in
+    omega (arith, c .before .start-depth .ensures, c7 .pre (c4 .loop .k) (omega arith))
 
 same-length : tie.Need-same-length Inv-loop μ-loop
 same-length c =
     let c3 = c .before .before .before in
-    let c9 = c3 .before .before .before .before .before .before in
-    c3 .visit .ensures .step .size ∙ c9 .loop .inv .1 .size
+    let c8 = c3 .before .before .before .before .before in
+    c3 .visit .ensures .step .size ∙ c8 .loop .inv .1 .size
 
 returns : tie.Need-returns Inv-loop μ-loop
 returns c =
     let c3 = c .before .before .before in
-    let c4 = c3 .before in
-    let c9 = c4 .before .before .before .before .before in
-    placed-no (c9 .loop .inv .1) (omega arith) (c4 .index .ensures) (c3 .visit .ensures) (c .if1 .taken)
+    let c5 = c3 .before .before in
+    let c8 = c5 .before .before .before in
+    placed-no (c8 .loop .inv .1) (omega arith) (c5 .before .start-offset .ensures) (c5 .start-depth .ensures) (c3 .visit .ensures) (c .if1 .taken)
 
 add-k : tie.Need-add-k Inv-loop μ-loop
 add-k c = omega arith
@@ -73,9 +53,9 @@ loop-less c = omega arith
 loop-again : tie.Need-loop-again Inv-loop μ-loop
 loop-again c =
     let c3 = c .before .before .before in
-    let c4 = c3 .before in
-    let c9 = c4 .before .before .before .before .before in
-    (omega arith, placing-on (c9 .loop .inv .1) (omega arith) (c4 .index .ensures) (c3 .visit .ensures) (c .if1 .left))
+    let c5 = c3 .before .before in
+    let c8 = c5 .before .before .before in
+    (omega arith, placing-on (c8 .loop .inv .1) (omega arith) (c5 .before .start-offset .ensures) (c5 .start-depth .ensures) (c3 .visit .ensures) (c .if1 .left))
 
 same-length-2 : tie.Need-same-length-2 Inv-loop μ-loop
 same-length-2 c =
@@ -92,14 +72,8 @@ begin-spec =
     Inv-loop
     μ-loop
     loop-holds
-    mul-o
-    mul-o-2
-    shared-slice-read-o
-    mul-d
-    add-d
-    mul-d-2
-    shared-slice-read-d
-    index-requires
+    start-offset-requires
+    start-depth-requires
     visit-requires
     same-length
     returns

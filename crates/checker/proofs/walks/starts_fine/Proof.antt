@@ -28,35 +28,16 @@ loop-holds : tie.Need-loop-holds Inv-loop μ-loop
 loop-holds c =
     (omega arith, λ j l. absurd (omega arith))
 
-mul-o : tie.Need-mul-o Inv-loop μ-loop
-mul-o c = omega arith
-
-mul-o-2 : tie.Need-mul-o-2 Inv-loop μ-loop
-mul-o-2 c = omega arith
-
-shared-slice-read-o : tie.Need-shared-slice-read-o Inv-loop μ-loop
-shared-slice-read-o c = omega arith
-
-mul-d : tie.Need-mul-d Inv-loop μ-loop
-mul-d c = omega arith
-
-add-d : tie.Need-add-d Inv-loop μ-loop
-add-d c = omega arith
-
-mul-d-2 : tie.Need-mul-d-2 Inv-loop μ-loop
-mul-d-2 c = omega arith
-
-shared-slice-read-d : tie.Need-shared-slice-read-d Inv-loop μ-loop
-shared-slice-read-d c = omega arith
+start-depth-requires : tie.Need-start-depth-requires Inv-loop μ-loop
+start-depth-requires c κs = omega arith
 
 returns-2 : tie.Need-returns-2 Inv-loop μ-loop
 returns-2 c =
-    let c4 = c .before .before .before .before in
-    record { yes = λ e. absurd (ft e); no = λ e p. let h = p .good (c4 .loop .k) (omega arith) .0 in omega arith }
+    let c3 = c .before .before .before in
+    record { yes = λ e. absurd (ft e); no = λ e p. omega (arith, c .before .start-depth .ensures, c .if2 .taken, p .good (c3 .loop .k) (omega arith) .0) }
 
-index-requires : tie.Need-index-requires Inv-loop μ-loop
-index-requires c κs =
-    search needs
+start-offset-requires : tie.Need-start-offset-requires Inv-loop μ-loop
+start-offset-requires c κs = omega arith
 
 is-place-requires : tie.Need-is-place-requires Inv-loop μ-loop
 is-place-requires c κs =
@@ -72,23 +53,23 @@ loop-again : tie.Need-loop-again Inv-loop μ-loop
 loop-again c =
     let c2 = c .before .before in
     let c3 = c2 .before in
-    let c7 = c3 .before .before .before .before in
-    let c11 = c7 .before .before .before .before in
-    let s = c11 .args .starts .now in (
+    let c6 = c3 .before .before .before in
+    let c10 = c6 .before .before .before .before in
+    let s = c10 .args .starts .now in (
       omega arith,
-      below-more (λ j. (getD s (2 * j + 1) 0 ≤ 65535) × Place (c11 .args .code .now) (getD s (2 * j) 0)) (c7 .loop .k) (c7 .loop .inv .1)
-          (c3 .if2 .left, subst (Place (c11 .args .code .now)) (c2 .index .ensures) (c .before .is-place .ensures .yes (c .if3 .taken))),
+      below-more (λ j. (getD s (2 * j + 1) 0 ≤ 65535) × Place (c10 .args .code .now) (getD s (2 * j) 0)) (c6 .loop .k) (c6 .loop .inv .1)
+          (omega (arith, c3 .before .start-depth .ensures, c3 .if2 .left), subst (Place (c10 .args .code .now)) (c2 .start-offset .ensures) (c .before .is-place .ensures .yes (c .if3 .taken))),
     )
 
 returns-3 : tie.Need-returns-3 Inv-loop μ-loop
 returns-3 c =
     let c2 = c .before .before in
-    let c7 = c2 .before .before .before .before .before in
-    let c11 = c7 .before .before .before .before in
+    let c6 = c2 .before .before .before .before in
+    let c10 = c6 .before .before .before .before in
     record {
       yes = λ e. absurd (ft e);
       no = λ e p. c .before .is-place .ensures .no (c .if3 .left)
-          (subst (Place (c11 .args .code .now)) (sym (c2 .index .ensures)) (p .good (c7 .loop .k) (omega arith) .1));
+          (subst (Place (c10 .args .code .now)) (sym (c2 .start-offset .ensures)) (p .good (c6 .loop .k) (omega arith) .1));
     }
 
 returns-4 : tie.Need-returns-4 Inv-loop μ-loop
@@ -103,15 +84,9 @@ starts-fine-spec =
     μ-loop
     returns
     loop-holds
-    mul-o
-    mul-o-2
-    shared-slice-read-o
-    mul-d
-    add-d
-    mul-d-2
-    shared-slice-read-d
+    start-depth-requires
     returns-2
-    index-requires
+    start-offset-requires
     is-place-requires
     add-k
     loop-less
