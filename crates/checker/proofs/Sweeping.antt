@@ -7,7 +7,6 @@ use mathlib.Core.Logic.{_⊎_, ⊎-elim}
 use mathlib.Core.Option.{some}
 use Prim.Native.Nat.{ℕ, _+_, _-_, _≤_, _<_}
 use native.Mathlib.Omega.{arith}
-use native.Mathlib.Decide.{ℕ-discrete}
 use native.Mathlib.Nat.{not-suc-le-zero}
 use denote.Enum.Declared.{tagOf}
 use lib.ListN.{length, drop, getD}
@@ -17,7 +16,7 @@ use Rattle.code.specs.declared.Flow.{Flow}
 use Rattle.code.specs.declared.Flowing.{Flowing}
 use Rattle.code.specs.declared.Flowing.the-variants as F
 use Rattle.code.specs.Flow.{flowOf}
-use Rattle.code.specs.Depths.{Stands, Kept, Falls, Jumps, Derived}
+use Rattle.code.specs.Depths.{Stands, Kept, Falls, Derived}
 use Rattle.code.proofs.Places.{stands-one, stands-size}
 use Rattle.checker.specs.Cells.{depthIn, held}
 use Rattle.checker.specs.Inner.{Sound, Stepped, Follows, KeptAt, Fell, Jumped, Relaxed, Swept, Settled}

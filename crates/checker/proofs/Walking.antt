@@ -20,7 +20,7 @@ use Rattle.code.specs.declared.Step.{Step}
 use Rattle.code.specs.declared.Step.the-variants.{Instr, End, Refused}
 use Rattle.code.specs.Decode.{decode}
 use Rattle.code.specs.Flow.{flowBy, flowOf}
-use Rattle.code.specs.Depths.{Stands, Place, first, next, Faulty, Derived, start}
+use Rattle.code.specs.Depths.{Stands, Place, first, next, Derived, start}
 use Rattle.code.proofs.Flows.{flow-op, flow-end, flow-refused}
 use Rattle.code.proofs.Places.{stands-size, stands-no-fault, ends-over, place-le, gap, between}
 use Rattle.checker.specs.Cells.{cell, depthIn}

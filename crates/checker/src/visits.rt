@@ -1,5 +1,5 @@
 // One cell, or what one instruction asks of the cells that it goes to. Each answers 0 where nothing changed, 1 where a cell got a depth,
-// 2 where there can be no assignment.
+// 2 where there can be no assignment; `hop` and `leap` answer 0 too where the cell lies ahead.
 ghost use mathlib.Core.Path.{_≡_};
 ghost use Prim.Native.Nat.{_+_, _<_, _≤_, _^_};
 ghost use Rattle.checker.specs.Inner.{Touched, Ahead, Landed, Visited, Arrived, Fell, Jumped};
@@ -71,7 +71,7 @@ pub fn fall(cells: &mut [u32], at: usize, d: u32, f: Flow) -> u8
     0
 }
 
-// The same from `at` on, but 0 where the cell lies ahead of it.
+// `arrive` from the instruction at `at`; 0 for 1 where the cell lies ahead of it.
 fn hop(cells: &mut [u32], at: usize, o: usize, d: u32, change: Change) -> u8
     ensures { λ r. ⌜ Arrived (now (cells .entry)) (now (cells .exit)) o d change r × (r ≡ 0 → Ahead (now (cells .entry)) (now (cells .exit)) at) ⌝ }
 {

@@ -1,9 +1,9 @@
 // Walks over the code from its first instruction on: faults, instruction starts, the start list.
 ghost use mathlib.Core.Path.{_≡_};
-ghost use Prim.Native.Nat.{ℕ, suc, _+_, _*_, _<_, _≤_};
+ghost use Prim.Native.Nat.{ℕ, suc, _+_, _*_, _<_};
 ghost use lib.ListN.{length, drop, getD};
 ghost use Rattle.code.specs.Decode.{decode};
-ghost use Rattle.code.specs.Depths.{Place, Faulty};
+ghost use Rattle.code.specs.Depths.{Place};
 ghost use Rattle.checker.specs.Cells.{cell};
 ghost use Rattle.checker.specs.Promise.{Listed};
 ghost use Rattle.checker.specs.Inner.{stopOf, Walked, NoFault, Tells, Marked};
