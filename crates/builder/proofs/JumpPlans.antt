@@ -32,9 +32,9 @@ use Rattle.builder.specs.declared.Plan.the-variants.{Idle, Refuse, Go}
 use Rattle.builder.specs.Tables.{markCells, rowsIn, rowFree}
 use Rattle.builder.specs.Plan.{guard, soundOf, Sound, liveOf, Goes}
 use Rattle.builder.specs.Marks.{markAt, markIn, targetMark, markSound, near, bits}
-use Rattle.builder.specs.Jumps.{unpatched, alsoMark, takenPlan, jumpDepth, jumpPlanOf, JumpGoes, commitJump, emitJumpOf}
+use Rattle.builder.specs.Jumps.{unpatched, takenPlan, jumpDepth, jumpPlanOf, JumpGoes, commitJump, emitJumpOf}
 use Rattle.builder.specs.Jumps.{jumpBy, spotOf, aimOf, toLiveOf, toDepth, toPlanOf, commitTo, jumpToCore}
-use Rattle.builder.proofs.Plans.{both, sound-true, guard-go, LiveGoes, live-goes, goes-by}
+use Rattle.builder.proofs.Plans.{both, sound-true, guard-go, also-go, LiveGoes, live-goes, goes-by}
 
 -- what a plan comes to
 
@@ -74,29 +74,22 @@ pub record ForwardGoes (c : Core) (l : Location) (k cl ll ml s : ℕ) (a : Depth
   pub goes : LiveGoes c l here k unpatched 0 w cl ll s a w
 
 module _ (c : Core) (l : Location) (k cl ll ml s w : ℕ) (a : Depth) where
-  also : (t : ℕ) (p : Plan) → alsoMark p (c .marks) ml ≡ Go s a w → (p ≡ Go s a w) × (c .marks < ml / markCells)
-  also t Idle e = let z : _≡_ {A = ℕ} 0 1 = cc in (cc, omega arith)
-  also t (Refuse r) e = let z : _≡_ {A = ℕ} 0 1 = cc in (cc, omega arith)
-  also t (Go s′ a′ w′) e =
-      let g = guard-go (rowFree markCells (c .marks) ml) (Full Marks) (Go s′ a′ w′) e in
-      (g .1, ltb-true _ _ (g .0))
-
-  by-taken : (d : ℕ) (x : After) → takenDepthOf d k ≡ x → takenPlan x c l d k cl ll ml ≡ Go s a w
+  by-taken : (d : ℕ) (x : After) → takenDepthOf d k ≡ x → takenPlan x c l d k cl ll ml ≡ Go a w s
       → (takenDepthOf d k ≡ A.Depth w) × (LiveGoes c l d k unpatched 0 w cl ll s a w) × (c .marks < ml / markCells)
   by-taken d (A.Refused r) q e = let z : _≡_ {A = ℕ} 0 1 = cc in absurd (omega arith)
   by-taken d (A.Depth t) q e =
-      let g = also t (liveOf c l d k unpatched 0 t cl ll) e in
+      let g = also-go (liveOf c l d k unpatched 0 t cl ll) (rowFree markCells (c .marks) ml) Marks e in
       let v = live-goes c l cl ll d k unpatched 0 t s w a (g .0) in
       let h : t ≡ w = sym (v .same) in
-      (q ∙ ap A.Depth h, rw h at v, g .1)
+      (q ∙ ap A.Depth h, rw h at v, ltb-true _ _ (g .1))
 
-  by-depth : (x : Depth) → c .depth ≡ x → jumpDepth x c l k cl ll ml ≡ Go s a w → Sound c cl ll → ForwardGoes c l k cl ll ml s a w
+  by-depth : (x : Depth) → c .depth ≡ x → jumpDepth x c l k cl ll ml ≡ Go a w s → Sound c cl ll → ForwardGoes c l k cl ll ml s a w
   by-depth Dead q e sd = let z : _≡_ {A = ℕ} 0 1 = cc in absurd (omega arith)
   by-depth (Live d) q e sd =
       let g = by-taken d (takenDepthOf d k) refl e in
       record { sound = sd; mark = g .2; here = d; live = q; taken = g .0; goes = g .1 }
 
-  pub forward-goes : jumpPlanOf c l k cl ll ml ≡ Go s a w → ForwardGoes c l k cl ll ml s a w
+  pub forward-goes : jumpPlanOf c l k cl ll ml ≡ Go a w s → ForwardGoes c l k cl ll ml s a w
   unfolding jumpPlanOf
   forward-goes e =
       let p3 : Plan = jumpDepth (c .depth) c l k cl ll ml in
@@ -107,10 +100,10 @@ module _ (c : Core) (l : Location) (k cl ll ml s w : ℕ) (a : Depth) where
       let e3 = guard-go (known k) UnknownOpcode p3 (e2 .1) in
       by-depth (c .depth) refl (e3 .1) (sound-true c cl ll (e1 .0))
 
-  pub jump-goes : jumpPlanOf c l k cl ll ml ≡ Go s a w → JumpGoes c l k cl ll ml s
+  pub jump-goes : jumpPlanOf c l k cl ll ml ≡ Go a w s → JumpGoes c l k cl ll ml s
   jump-goes e =
       let g = forward-goes e in
-      record { goes = goes-by c l cl ll (g .here) k unpatched 0 w s w a (g .sound) (g .goes); mark = g .mark }
+      record { goes = goes-by c l cl ll (g .here) k unpatched 0 w s w a (g .sound) (g .goes); size = g .goes .size; mark = g .mark }
 
 -- a jump to a target
 
@@ -130,7 +123,7 @@ pub record ToGoes (c : Core) (l : Location) (k : ℕ) (t : JumpTarget) (cl ll : 
 
 module _ (c : Core) (l : Location) (k cl ll : ℕ) (marks : List ℕ) (s w : ℕ) (a : Depth) (sd : Sound c cl ll) where
   by-spot : (d e i : ℕ) (t : JumpTarget) (m : Mark) → c .depth ≡ Live d → t ≡ T.Row i → takenDepthOf d k ≡ A.Depth e → markIn (c .marks) marks i ≡ m
-      → spotOf m e c l d k cl ll ≡ Go s a w → ToGoes c l k t cl ll marks s a w
+      → spotOf m e c l d k cl ll ≡ Go a w s → ToGoes c l k t cl ll marks s a w
   by-spot d e i t Absent ed et ek em h = let z : _≡_ {A = ℕ} 0 1 = cc in absurd (omega arith)
   by-spot d e i t (Open o f) ed et ek em h = let z : _≡_ {A = ℕ} 0 1 = cc in absurd (omega arith)
   by-spot d e i t (Patched o f) ed et ek em h = let z : _≡_ {A = ℕ} 0 1 = cc in absurd (omega arith)
@@ -154,23 +147,23 @@ module _ (c : Core) (l : Location) (k cl ll : ℕ) (marks : List ℕ) (s w : ℕ
         goes = rw (sym (v .same)) at v;
       }
 
-  by-target : (d e : ℕ) (t : JumpTarget) → c .depth ≡ Live d → takenDepthOf d k ≡ A.Depth e → aimOf t (targetMark t (c .marks) marks) e c l d k cl ll ≡ Go s a w
+  by-target : (d e : ℕ) (t : JumpTarget) → c .depth ≡ Live d → takenDepthOf d k ≡ A.Depth e → aimOf t (targetMark t (c .marks) marks) e c l d k cl ll ≡ Go a w s
       → ToGoes c l k t cl ll marks s a w
   by-target d e T.Dead ed ek h = let z : _≡_ {A = ℕ} 0 1 = cc in absurd (omega arith)
   by-target d e (T.Row i) ed ek h = by-spot d e i (T.Row i) (markIn (c .marks) marks i) ed refl ek refl h
 
-  by-arrival : (d : ℕ) (t : JumpTarget) (x : After) → c .depth ≡ Live d → takenDepthOf d k ≡ x → toLiveOf x t (targetMark t (c .marks) marks) c l d k cl ll ≡ Go s a w
+  by-arrival : (d : ℕ) (t : JumpTarget) (x : After) → c .depth ≡ Live d → takenDepthOf d k ≡ x → toLiveOf x t (targetMark t (c .marks) marks) c l d k cl ll ≡ Go a w s
       → ToGoes c l k t cl ll marks s a w
   unfolding toLiveOf
   by-arrival d t (A.Refused r) ed ek h = let z : _≡_ {A = ℕ} 0 1 = cc in absurd (omega arith)
   by-arrival d t (A.Depth e) ed ek h = by-target d e t ed ek h
 
-  by-place : (t : JumpTarget) (x : Depth) → c .depth ≡ x → toDepth x t (targetMark t (c .marks) marks) c l k cl ll ≡ Go s a w → ToGoes c l k t cl ll marks s a w
+  by-place : (t : JumpTarget) (x : Depth) → c .depth ≡ x → toDepth x t (targetMark t (c .marks) marks) c l k cl ll ≡ Go a w s → ToGoes c l k t cl ll marks s a w
   by-place t Dead ed h = let z : _≡_ {A = ℕ} 0 1 = cc in absurd (omega arith)
   by-place t (Live d) ed h = by-arrival d t (takenDepthOf d k) ed refl h
 
 module _ (c : Core) (l : Location) (k : ℕ) (t : JumpTarget) (cl ll : ℕ) (marks : List ℕ) (s w : ℕ) (a : Depth) where
-  pub to-goes : toPlanOf c l k t cl ll marks ≡ Go s a w → ToGoes c l k t cl ll marks s a w
+  pub to-goes : toPlanOf c l k t cl ll marks ≡ Go a w s → ToGoes c l k t cl ll marks s a w
   unfolding toPlanOf
   to-goes e =
       let m = targetMark t (c .marks) marks in
@@ -185,7 +178,7 @@ module _ (c : Core) (l : Location) (k : ℕ) (t : JumpTarget) (cl ll : ℕ) (mar
       by-place c l k cl ll marks s w a (sound-true c cl ll (e1 .0)) t (c .depth) refl (e4 .1)
 
   -- what the writer asks for, whichever way the displacement is written
-  pub to-writes : (z : ℤ) → z ≡ signed 65536 w → toPlanOf c l k t cl ll marks ≡ Go s a w → Goes c l k (Offset z) 0 cl ll s
+  pub to-writes : (z : ℤ) → z ≡ signed 65536 w → toPlanOf c l k t cl ll marks ≡ Go a w s → Goes c l k (Offset z) 0 cl ll
   to-writes z ez e =
       let g = to-goes e in
       rw ez (goes-by c l cl ll (g .here) k (jumpBy w) 0 w s w a (g .sound) (g .goes))

@@ -55,15 +55,15 @@ pub record PatchGoes (c : Core) (m : Mark) (o : ℕ) (a : Depth) (w : ℕ) : Typ
   pub word : w ≡ bits o (c .code)
 
 module _ (c : Core) (o w : ℕ) (a : Depth) where
-  by-mark : (m x : Mark) → m ≡ x → markSound (c .code) x ≡ true → openPlan x c ≡ Go o a w → PatchGoes c m o a w
+  by-mark : (m x : Mark) → m ≡ x → markSound (c .code) x ≡ true → openPlan x c ≡ Go a w o → PatchGoes c m o a w
   by-mark m Absent em es e = let z : _≡_ {A = ℕ} 0 1 = cc in absurd (omega arith)
   by-mark m (Target p d) em es e = let z : _≡_ {A = ℕ} 0 1 = cc in absurd (omega arith)
   by-mark m (Patched p d) em es e = let z : _≡_ {A = ℕ} 0 1 = cc in absurd (omega arith)
   by-mark m (Open p d) em es e =
-      let p2 : Plan = Go p (revived (c .depth) d) (bits p (c .code)) in
+      let p2 : Plan = Go (revived (c .depth) d) (bits p (c .code)) p in
       let e1 = guard-go (meets (c .depth) d) DepthsDiffer (guard (near p (c .code)) JumpTooFar p2) e in
       let e2 = guard-go (near p (c .code)) JumpTooFar p2 (e1 .1) in
-      let q : Go p (revived (c .depth) d) (bits p (c .code)) ≡ Go o a w = e2 .1 in
+      let q : Go (revived (c .depth) d) (bits p (c .code)) p ≡ Go a w o = e2 .1 in
       let qo : p ≡ o = cc in
       let f = fits-true d (p + 3) (c .code) es in
       record {
@@ -77,14 +77,14 @@ module _ (c : Core) (o w : ℕ) (a : Depth) where
         word = rw (← qo) (let h : bits p (c .code) ≡ w = cc in sym h);
       }
 
-  pub patch-goes : (m : Mark) → markPlanOf m c ≡ Go o a w → PatchGoes c m o a w
+  pub patch-goes : (m : Mark) → markPlanOf m c ≡ Go a w o → PatchGoes c m o a w
   unfolding markPlanOf
   patch-goes m e =
       let g = guard-go (markSound (c .code) m) Unsound (openPlan m c) e in
       by-mark m m refl (g .0) (g .1)
 
   -- what the patch's writing asks for
-  pub patch-writes : (cl i : ℕ) (marks : List ℕ) → Markable c cl (length marks) → markPlanOf (markIn (c .marks) marks i) c ≡ Go o a w
+  pub patch-writes : (cl i : ℕ) (marks : List ℕ) → Markable c cl (length marks) → markPlanOf (markIn (c .marks) marks i) c ≡ Go a w o
       → (o + 3 ≤ cl) × (i < length marks / markCells)
   patch-writes cl i marks ok e =
       let g = patch-goes (markIn (c .marks) marks i) e in

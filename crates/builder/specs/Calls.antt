@@ -9,9 +9,9 @@ use Rattle.op.specs.Choice.{pick}
 use Rattle.op.specs.declared.Refusal.{Refusal}
 use Rattle.op.specs.declared.Refusal.the-variants.{TooManyConstants, TooLarge, RegionWhileLive, NamesHeld, OpenLabel, Full, Unsound}
 use Rattle.op.specs.declared.Table.the-variants.{Exceptions, Constants, Names, Starts}
+use Rattle.code.specs.Entries.{kindNumber}
 use Rattle.code.specs.declared.CodeRange.{CodeRange}
 use Rattle.code.specs.declared.HandlerKind.{HandlerKind}
-use Rattle.code.specs.declared.HandlerKind.the-variants.{Consuming, Cleanup}
 use Rattle.builder.specs.declared.Added.{Added}
 use Rattle.builder.specs.declared.Added.the-variants as N
 use Rattle.builder.specs.declared.Answer.{Answer}
@@ -115,11 +115,6 @@ addConstOf b value cells =
     (addedKept (N.Refused Unsound) cells)
 
 -- exceptions
-
--- "kind 0 Consuming, 1 Cleanup"
-abbrev pub kindNumber : HandlerKind → ℕ
-kindNumber Consuming = 0
-kindNumber Cleanup = 1
 
 -- 10, "exception offset over 4,294,967,295"
 abbrev pub offsetMax : ℕ

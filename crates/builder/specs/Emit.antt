@@ -75,7 +75,7 @@ coreOutcome r code locs = record { answer = r; code = code; locations = locs }
 abbrev pub commitOf : Plan → Core → Location → List ℕ → List ℕ → List ℕ → CoreOutcome
 commitOf Idle c l bytes code locs = coreOutcome (C.Accepted c) code locs
 commitOf (Refuse r) c l bytes code locs = coreOutcome (C.Refused r) code locs
-commitOf (Go size after word) c l bytes code locs =
+commitOf (Go after word size) c l bytes code locs =
     coreOutcome (C.Accepted (coreAfter c l size after)) (put (c .code) bytes code) (locationsAfter l (c .locations) (c .code) locs)
 
 -- emission on the core
@@ -84,8 +84,8 @@ emitCore c l k name o ns code locs =
     commitOf (planOf c l k name o (length ns) (length code) (length locs)) c l (encode k o ns) code locs
 
 -- what writing one instruction leaves
-pub record Committed (c : Core) (l : Location) (k : ℕ) (o : Operand) (ns : List ℕ) (size : ℕ) (after : Depth) (code locs : List ℕ) (next : Core) (code′ locs′ : List ℕ) : Type 0 where
-  pub state : next ≡ coreAfter c l size after
+pub record Committed (c : Core) (l : Location) (k : ℕ) (o : Operand) (ns code locs : List ℕ) (used : ℕ) (code′ locs′ : List ℕ) : Type 0 where
+  pub count : used ≡ rowsAfter l (c .locations)
   pub bytes : code′ ≡ put (c .code) (encode k o ns) code
   pub rows : locs′ ≡ locationsAfter l (c .locations) (c .code) locs
 

@@ -11,6 +11,7 @@ use lib.ListN.{length}
 use Rattle.op.specs.Choice.{pick}
 use Rattle.op.specs.Opcodes.{known}
 use Rattle.op.specs.Depths.{takenDepthOf}
+use Rattle.op.specs.Shapes.{operandShape, sizeOf}
 use Rattle.op.specs.declared.After.{After}
 use Rattle.op.specs.declared.After.the-variants as A
 use Rattle.op.specs.declared.Operand.{Operand}
@@ -36,7 +37,7 @@ use Rattle.builder.specs.declared.Plan.the-variants.{Idle, Refuse, Go}
 use Rattle.builder.specs.declared.Targeted.{Targeted}
 use Rattle.builder.specs.declared.Targeted.the-variants as G
 use Rattle.builder.specs.Tables.{codeLimit, markCells, rowsIn, rowFree, put}
-use Rattle.builder.specs.Plan.{guard, soundOf, liveOf, Goes}
+use Rattle.builder.specs.Plan.{guard, soundOf, alsoRow, liveOf, Goes}
 use Rattle.builder.specs.Emit.{CoreOutcome, Outcome, outcomeBy, commitOf, coreAfter, withCore, locationsAfter}
 use Rattle.builder.specs.Marks.{openKind, targetKind, markRow, targetMark, markSound, near, bits}
 
@@ -46,16 +47,10 @@ use Rattle.builder.specs.Marks.{openKind, targetKind, markRow, targetMar
 abbrev pub unpatched : Operand
 unpatched = Offset (pos 0)
 
--- 18, marks last
-abbrev pub alsoMark : Plan → ℕ → ℕ → Plan
-alsoMark Idle rows ml = Idle
-alsoMark (Refuse r) rows ml = Refuse r
-alsoMark (Go size after word) rows ml = guard (rowFree markCells rows ml) (Full Marks) (Go size after word)
-
--- 3, taken-depth 5, then as any emission
+-- 3, taken-depth 5, then as any emission; 18, marks last
 abbrev pub takenPlan : After → Core → Location → ℕ → ℕ → ℕ → ℕ → ℕ → Plan
 takenPlan (A.Refused r) c l d k cl ll ml = Refuse r
-takenPlan (A.Depth t) c l d k cl ll ml = alsoMark (liveOf c l d k unpatched 0 t cl ll) (c .marks) ml
+takenPlan (A.Depth t) c l d k cl ll ml = alsoRow (liveOf c l d k unpatched 0 t cl ll) (rowFree markCells (c .marks) ml) Marks
 
 abbrev pub jumpDepth : Depth → Core → Location → ℕ → ℕ → ℕ → ℕ → Plan
 jumpDepth Dead c l k cl ll ml = Idle
@@ -70,7 +65,8 @@ jumpPlanOf c l k cl ll ml =
 
 -- what is known where a jump goes ahead
 pub record JumpGoes (c : Core) (l : Location) (k cl ll ml s : ℕ) : Type 0 where
-  pub goes : Goes c l k unpatched 0 cl ll s
+  pub goes : Goes c l k unpatched 0 cl ll
+  pub size : s ≡ sizeOf (operandShape unpatched) 0
   pub mark : c .marks < ml / markCells
 
 -- the answer, and the three tables as the call leaves them
@@ -91,7 +87,7 @@ withMarks c n = record { code = c .code; locations = c .locations; marks = n; de
 abbrev pub commitJump : Plan → Builder → ℕ → List ℕ → List ℕ → List ℕ → JumpOutcome
 commitJump Idle b k code locs marks = jumpOutcome (J.Made b L.Dead) code locs marks
 commitJump (Refuse r) b k code locs marks = jumpOutcome (J.Refused r) code locs marks
-commitJump (Go size after t) b k code locs marks =
+commitJump (Go after t size) b k code locs marks =
     jumpOutcome
     (J.Made (withCore b (withMarks (coreAfter (b .core) (b .location) size after) (b .core .marks + 1))) (L.Row (b .core .marks)))
     (put (b .core .code) (encode k unpatched []) code)
@@ -151,7 +147,7 @@ toPlanOf c l k t cl ll marks =
 abbrev pub wordIn : Plan → ℕ
 wordIn Idle = 0
 wordIn (Refuse r) = 0
-wordIn (Go size after word) = word
+wordIn (Go after word size) = word
 
 -- what such a plan comes to
 abbrev pub commitTo : Plan → Core → Location → ℕ → List ℕ → List ℕ → CoreOutcome

@@ -30,7 +30,7 @@ openPlan (Patched o d) c = Refuse AlreadyPatched
 openPlan (Open o d) c =
     guard (meets (c .depth) d) DepthsDiffer
     (guard (near o (c .code)) JumpTooFar
-    (Go o (revived (c .depth) d) (bits o (c .code))))
+    (Go (revived (c .depth) d) (bits o (c .code)) o))
 
 -- 19 of the mark
 unfoldable pub markPlanOf : Mark → Core → Plan
@@ -71,7 +71,7 @@ patchOutcome r code marks = record { answer = r; code = code; marks = marks }
 abbrev pub commitPatch : Plan → Builder → JumpLabel → List ℕ → List ℕ → PatchOutcome
 commitPatch Idle b label code marks = patchOutcome (Accepted b) code marks
 commitPatch (Refuse r) b label code marks = patchOutcome (Refused r) code marks
-commitPatch (Go offset after w) b label code marks =
+commitPatch (Go after w offset) b label code marks =
     patchOutcome (Accepted (withCore b (withDepth (b .core) after)))
     (put (offset + 1) (wordBytes w) code)
     (set marks (labelRow label * markCells) patchedKind)

@@ -15,6 +15,7 @@ use Rattle.op.specs.declared.After.the-variants as A
 use Rattle.op.specs.declared.Operand.{Operand}
 use Rattle.op.specs.declared.Refusal.{Refusal}
 use Rattle.op.specs.declared.Refusal.the-variants.{UnknownOpcode, WrongShape, TooManyKeywords, NameTooLarge, Full, Unsound}
+use Rattle.op.specs.declared.Table.{Table}
 use Rattle.op.specs.declared.Table.the-variants.{Code, Locations}
 use Rattle.code.specs.Decode.{namesIn}
 use Rattle.code.specs.Encode.{writtenOf}
@@ -42,29 +43,38 @@ abbrev pub rowFits : Location → ℕ → ℕ → Bool
 rowFits Unset rows ll = true
 rowFits (Set r f) rows ll = rowFree locationCells rows ll
 
--- 18 in the order code, locations
-unfoldable pub roomOf : Core → Location → ℕ → Depth → ℕ → ℕ → ℕ → Plan
-roomOf c l size after word cl ll =
-    guard (leb size (cl - c .code)) (Full Code)
-    (guard (leb size (codeLimit - c .code)) (Full Code)
-    (guard (rowFits l (c .locations) ll) (Full Locations)
-    (Go size after word)))
+-- 18 of a row that goes with an instruction
+abbrev pub alsoRow : Plan → Bool → Table → Plan
+alsoRow Idle free t = Idle
+alsoRow (Refuse r) free t = Refuse r
+alsoRow (Go after word size) free t = guard free (Full t) (Go after word size)
+
+-- 18 of the code
+unfoldable pub roomOf : ℕ → ℕ → Depth → ℕ → ℕ → Plan
+roomOf at size after word cl =
+    guard (leb size (cl - at)) (Full Code)
+    (guard (leb size (codeLimit - at)) (Full Code)
+    (Go after word size))
 
 -- "Exactly six opcodes make the code dead"
 unfoldable pub behind : ℕ → ℕ → Depth
 behind k e = pick (deadMaker k) Dead (Live e)
 
--- 2, 4, 5, then 18
-abbrev pub fallenOf : After → Core → Location → ℕ → ℕ → ℕ → ℕ → ℕ → Plan
-fallenOf (A.Refused r) c l k size word cl ll = Refuse r
-fallenOf (A.Depth e) c l k size word cl ll = roomOf c l size (behind k e) word cl ll
+-- 2, 4, 5, then 18 of the code
+abbrev pub fallenOf : After → ℕ → ℕ → ℕ → ℕ → ℕ → Plan
+fallenOf (A.Refused r) at k size word cl = Refuse r
+fallenOf (A.Depth e) at k size word cl = roomOf at size (behind k e) word cl
 
--- live at depth d, with n keyword names: 7, 2, 4, 5, then 18. (An operand that counts other names has another shape too.)
-unfoldable pub liveOf : Core → Location → ℕ → ℕ → Operand → ℕ → ℕ → ℕ → ℕ → Plan
-liveOf c l d k o n word cl ll =
+-- live at depth d, with n keyword names: 7, 2, 4, 5, then 18 of the code. (An operand that counts other names has another shape too.)
+unfoldable pub bytesOf : ℕ → ℕ → ℕ → Operand → ℕ → ℕ → ℕ → Plan
+bytesOf at d k o n word cl =
     guard (leb n 255) TooManyKeywords
     (guard (eqb (namesIn o) n) WrongShape
-    (fallenOf (afterOf d k o) c l k (sizeOf (operandShape o) n) word cl ll))
+    (fallenOf (afterOf d k o) at k (sizeOf (operandShape o) n) word cl))
+
+-- then 18 of the locations
+unfoldable pub liveOf : Core → Location → ℕ → ℕ → Operand → ℕ → ℕ → ℕ → ℕ → Plan
+liveOf c l d k o n word cl ll = alsoRow (bytesOf (c .code) d k o n word cl) (rowFits l (c .locations) ll) Locations
 
 -- "dead code (accepted, nothing changes)"
 abbrev pub depthOf : Depth → Core → Location → ℕ → Operand → ℕ → ℕ → ℕ → Plan
@@ -85,12 +95,11 @@ pub record Sound (c : Core) (cl ll : ℕ) : Type 0 where
   pub limit : c .code ≤ codeLimit
   pub rows : c .locations ≤ ll / locationCells
 
--- what is known where a plan goes ahead with s bytes
-pub record Goes (c : Core) (l : Location) (k : ℕ) (o : Operand) (n cl ll s : ℕ) : Type 0 where
+-- what is known where a plan goes ahead
+pub record Goes (c : Core) (l : Location) (k : ℕ) (o : Operand) (n cl ll : ℕ) : Type 0 where
   pub sound : Sound c cl ll
-  pub size : s ≡ sizeOf (operandShape o) n
   pub count : namesIn o ≡ n
-  pub written : writtenOf k o n (cl - c .code) ≡ Size s
-  pub code : s ≤ cl - c .code
-  pub limit : s ≤ codeLimit - c .code
+  pub written : writtenOf k o n (cl - c .code) ≡ Size (sizeOf (operandShape o) n)
+  pub code : sizeOf (operandShape o) n ≤ cl - c .code
+  pub limit : sizeOf (operandShape o) n ≤ codeLimit - c .code
   pub row : rowFits l (c .locations) ll ≡ true

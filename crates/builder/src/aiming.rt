@@ -49,17 +49,16 @@ fn decide_spot(
                 return Plan::Refuse(Refusal::JumpTooFar);
             }
             let word = marking::bits_of(core.code, offset as usize);
-            deciding::decide_live(
+            let plan = deciding::decide_bytes(
                 core,
-                location,
                 d,
                 opcode,
                 Operand::Offset(signs::to_i16(word)),
                 0,
                 word,
                 cl,
-                ll,
-            )
+            );
+            deciding::also_location(plan, location, core.locations, ll)
         }
     }
 }
@@ -146,19 +145,23 @@ pub fn jump_to_core(
     match plan {
         Plan::Idle => CoreAnswer::Accepted(core),
         Plan::Refuse(refusal) => CoreAnswer::Refused(refusal),
-        Plan::Go(size, after, word) => {
+        Plan::Go(after, word, size) => {
             let none: [u16; 0] = [];
-            CoreAnswer::Accepted(emitting::commit(
+            let rows = emitting::commit(
                 core,
                 location,
                 opcode,
                 Operand::Offset(signs::to_i16(word)),
                 &none,
-                size,
-                after,
                 code,
                 locations,
-            ))
+            );
+            CoreAnswer::Accepted(Core {
+                code: core.code + size,
+                locations: rows,
+                marks: core.marks,
+                depth: after,
+            })
         }
     }
 }

@@ -1,6 +1,8 @@
 // Deciding an emission, on numbers alone, in the order of document 01's line "Emitting calls".
+ghost use Prim.Native.Nat.{_≤_};
+ghost use Rattle.builder.specs.Plan.{soundOf, Sound, behind, rowFits, alsoRow, roomOf, bytesOf, liveOf, planOf};
+ghost use Rattle.builder.specs.Tables.{codeLimit};
 ghost use mathlib.Core.Path.{_≡_};
-ghost use Rattle.builder.specs.Plan.{soundOf, Sound, behind, roomOf, liveOf, planOf};
 use crate::CODE_LIMIT;
 use crate::Core;
 use crate::Depth;
@@ -41,18 +43,43 @@ fn behind_op(opcode: u8, e: u16) -> Depth
     Depth::Live(e)
 }
 
-// Whether there is room for so many bytes, and for a location's row.
-fn room(
-    core: Core,
-    location: Location,
-    size: usize,
-    after: Depth,
-    word: u16,
-    cl: usize,
-    ll: usize,
-) -> Plan
-    requires { ⌜ Sound core cl ll ⌝ }
-    ensures { λ r. ⌜ r ≡ roomOf core location size after word cl ll ⌝ }
+// Whether a location that is set has room for its row.
+fn row_fits(location: Location, rows: usize, ll: usize) -> bool
+    ensures { λ r. ⌜ r ≡ rowFits location rows ll ⌝ }
+{
+    let Location::Set(_, _) = location else {
+        return true;
+    };
+    rows < ll / LOCATION_CELLS
+}
+
+// The same plan, where a table has room for the row that goes with it.
+pub fn also_row(plan: Plan, free: bool, table: Table) -> Plan
+    ensures { λ r. ⌜ r ≡ alsoRow plan free table ⌝ }
+{
+    match plan {
+        Plan::Idle => Plan::Idle,
+        Plan::Refuse(refusal) => Plan::Refuse(refusal),
+        Plan::Go(after, word, size) => {
+            if free {
+                return Plan::Go(after, word, size);
+            }
+            Plan::Refuse(Refusal::Full(table))
+        }
+    }
+}
+
+// The same plan, where a location that is set has room for its row.
+pub fn also_location(plan: Plan, location: Location, rows: usize, ll: usize) -> Plan
+    ensures { λ r. ⌜ r ≡ alsoRow plan (rowFits location rows ll) Table.Locations ⌝ }
+{
+    also_row(plan, row_fits(location, rows, ll), Table::Locations)
+}
+
+// Whether there is room for so many bytes.
+fn room(core: Core, size: usize, after: Depth, word: u16, cl: usize) -> Plan
+    requires { ⌜ (core .code ≤ cl) × (core .code ≤ codeLimit) ⌝ }
+    ensures { λ r. ⌜ r ≡ roomOf (core .code) size after word cl ⌝ }
 {
     let at = core.code;
     if cl - at < size {
@@ -61,29 +88,21 @@ fn room(
     if CODE_LIMIT - at < size {
         return Plan::Refuse(Refusal::Full(Table::Code));
     }
-    if let Location::Set(_, _) = location {
-        if ll / LOCATION_CELLS <= core.locations {
-            return Plan::Refuse(Refusal::Full(Table::Locations));
-        }
-        return Plan::Go(size, after, word);
-    }
-    Plan::Go(size, after, word)
+    Plan::Go(after, word, size)
 }
 
-// What is decided in live code, at depth `d`, with `n` keyword names.
-pub fn decide_live(
+// What is decided of the bytes, in live code at depth `d`, with `n` keyword names.
+pub fn decide_bytes(
     core: Core,
-    location: Location,
     d: u16,
     opcode: u8,
     operand: Operand,
     n: usize,
     word: u16,
     cl: usize,
-    ll: usize,
 ) -> Plan
-    requires { ⌜ Sound core cl ll ⌝ }
-    ensures { λ r. ⌜ r ≡ liveOf core location d opcode operand n word cl ll ⌝ }
+    requires { ⌜ (core .code ≤ cl) × (core .code ≤ codeLimit) ⌝ }
+    ensures { λ r. ⌜ r ≡ bytesOf (core .code) d opcode operand n word cl ⌝ }
 {
     if 255 < n {
         return Plan::Refuse(Refusal::TooManyKeywords);
@@ -95,7 +114,7 @@ pub fn decide_live(
     match after {
         After::Depth(e) => {
             let size = shapes::instruction_size(shapes::of_operand(operand), n as u8);
-            room(core, location, size, behind_op(opcode, e), word, cl, ll)
+            room(core, size, behind_op(opcode, e), word, cl)
         }
         After::Refused(refusal) => Plan::Refuse(refusal),
     }
@@ -127,5 +146,6 @@ pub fn decide(
     let Depth::Live(d) = depth else {
         return Plan::Idle;
     };
-    decide_live(core, location, d, opcode, operand, n, 0, cl, ll)
+    let plan = decide_bytes(core, d, opcode, operand, n, 0, cl);
+    also_location(plan, location, core.locations, ll)
 }

@@ -11,8 +11,7 @@ use op::Operand;
 pub fn emit(b: Builder, opcode: u8, code: &mut [u8], locations: &mut [u32]) -> Answer
     ensures { λ r. ⌜ outcome r (now (code .exit)) (now (locations .exit)) ≡ emitOf b opcode Operand.None [] (now (code .entry)) (now (locations .entry)) ⌝ }
 {
-    let none: [u16; 0] = [];
-    emitting::emit_with_operand(b, opcode, 0, Operand::None, &none, code, locations)
+    emitting::emit_with_operand(b, opcode, 0, Operand::None, code, locations)
 }
 
 pub fn emit_u8(
@@ -24,8 +23,7 @@ pub fn emit_u8(
 ) -> Answer
     ensures { λ r. ⌜ outcome r (now (code .exit)) (now (locations .exit)) ≡ emitOf b opcode (Operand.U8 operand) [] (now (code .entry)) (now (locations .entry)) ⌝ }
 {
-    let none: [u16; 0] = [];
-    emitting::emit_with_operand(b, opcode, 0, Operand::U8(operand), &none, code, locations)
+    emitting::emit_with_operand(b, opcode, 0, Operand::U8(operand), code, locations)
 }
 
 pub fn emit_i8(
@@ -37,8 +35,7 @@ pub fn emit_i8(
 ) -> Answer
     ensures { λ r. ⌜ outcome r (now (code .exit)) (now (locations .exit)) ≡ emitOf b opcode (Operand.I8 operand) [] (now (code .entry)) (now (locations .entry)) ⌝ }
 {
-    let none: [u16; 0] = [];
-    emitting::emit_with_operand(b, opcode, 0, Operand::I8(operand), &none, code, locations)
+    emitting::emit_with_operand(b, opcode, 0, Operand::I8(operand), code, locations)
 }
 
 // Used for UnpackEx: the counts before and after.
@@ -52,13 +49,11 @@ pub fn emit_u8_u8(
 ) -> Answer
     ensures { λ r. ⌜ outcome r (now (code .exit)) (now (locations .exit)) ≡ emitOf b opcode (Operand.U8U8 operand1 operand2) [] (now (code .entry)) (now (locations .entry)) ⌝ }
 {
-    let none: [u16; 0] = [];
     emitting::emit_with_operand(
         b,
         opcode,
         0,
         Operand::U8U8(operand1, operand2),
-        &none,
         code,
         locations,
     )
@@ -73,8 +68,7 @@ pub fn emit_u16(
 ) -> Answer
     ensures { λ r. ⌜ outcome r (now (code .exit)) (now (locations .exit)) ≡ emitOf b opcode (Operand.U16 operand) [] (now (code .entry)) (now (locations .entry)) ⌝ }
 {
-    let none: [u16; 0] = [];
-    emitting::emit_with_operand(b, opcode, 0, Operand::U16(operand), &none, code, locations)
+    emitting::emit_with_operand(b, opcode, 0, Operand::U16(operand), code, locations)
 }
 
 // Used for LoadSubmodule: the attribute and the dotted path.
@@ -88,13 +82,11 @@ pub fn emit_u16_u16(
 ) -> Answer
     ensures { λ r. ⌜ outcome r (now (code .exit)) (now (locations .exit)) ≡ emitOf b opcode (Operand.U16U16 operand1 operand2) [] (now (code .entry)) (now (locations .entry)) ⌝ }
 {
-    let none: [u16; 0] = [];
     emitting::emit_with_operand(
         b,
         opcode,
         0,
         Operand::U16U16(operand1, operand2),
-        &none,
         code,
         locations,
     )
@@ -111,13 +103,11 @@ pub fn emit_u16_u8(
 ) -> Answer
     ensures { λ r. ⌜ outcome r (now (code .exit)) (now (locations .exit)) ≡ emitOf b opcode (Operand.U16U8 operand1 operand2) [] (now (code .entry)) (now (locations .entry)) ⌝ }
 {
-    let none: [u16; 0] = [];
     emitting::emit_with_operand(
         b,
         opcode,
         0,
         Operand::U16U8(operand1, operand2),
-        &none,
         code,
         locations,
     )
@@ -135,13 +125,11 @@ pub fn emit_u16_u8_u8(
 ) -> Answer
     ensures { λ r. ⌜ outcome r (now (code .exit)) (now (locations .exit)) ≡ emitOf b opcode (Operand.U16U8U8 operand1 operand2 operand3) [] (now (code .entry)) (now (locations .entry)) ⌝ }
 {
-    let none: [u16; 0] = [];
     emitting::emit_with_operand(
         b,
         opcode,
         0,
         Operand::U16U8U8(operand1, operand2, operand3),
-        &none,
         code,
         locations,
     )

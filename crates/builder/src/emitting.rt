@@ -1,17 +1,17 @@
 // The one way in which instructions are emitted: decide, then commit.
 ghost use Prim.Native.Nat.{_≤_};
-ghost use Rattle.builder.specs.Emit.{locationRow, locationsAfter, rowsAfter, Committed, coreOutcome, emitCore, outcome, emitNamed};
+ghost use Rattle.builder.specs.Emit.{locationRow, locationsAfter, rowsAfter, Committed, coreOutcome, emitCore, outcome, emitNamed, emitOf};
 ghost use Rattle.builder.specs.Plan.{rowFits, Goes};
 ghost use Rattle.builder.specs.Tables.{codeLimit};
 ghost use Rattle.code.specs.Bytes.{front};
 ghost use lib.ListN.{length};
 ghost use mathlib.Core.Bool.{true};
+ghost use mathlib.Core.List.{[]};
 ghost use mathlib.Core.Path.{_≡_};
 use crate::Answer;
 use crate::Builder;
 use crate::Core;
 use crate::CoreAnswer;
-use crate::Depth;
 use crate::LOCATION_CELLS;
 use crate::Location;
 use crate::Plan;
@@ -48,30 +48,22 @@ fn write_location(location: Location, rows: usize, at: usize, locations: &mut [u
     rows + 1
 }
 
-// One instruction and its location's row, at the used ends; the core then.
+// One instruction and its location's row, at the used ends; the rows then used.
 pub fn commit(
     core: Core,
     location: Location,
     opcode: u8,
     operand: Operand,
     kwnames: &[u16],
-    size: usize,
-    after: Depth,
     code: &mut [u8],
     locations: &mut [u32],
-) -> Core
-    requires { ⌜ Goes core location opcode operand (length (now kwnames)) (length (now code)) (length (now locations)) size ⌝ }
-    ensures { λ r. ⌜ Committed core location opcode operand (now (kwnames .entry)) size after (now (code .entry)) (now (locations .entry)) r (now (code .exit)) (now (locations .exit)) ⌝ }
+) -> usize
+    requires { ⌜ Goes core location opcode operand (length (now kwnames)) (length (now code)) (length (now locations)) ⌝ }
+    ensures { λ r. ⌜ Committed core location opcode operand (now (kwnames .entry)) (now (code .entry)) (now (locations .entry)) r (now (code .exit)) (now (locations .exit)) ⌝ }
 {
     let at = core.code;
     writer::write(&mut code[at..], opcode, operand, kwnames);
-    let rows = write_location(location, core.locations, at, locations);
-    Core {
-        code: at + size,
-        locations: rows,
-        marks: core.marks,
-        depth: after,
-    }
+    write_location(location, core.locations, at, locations)
 }
 
 // Emission on the core.
@@ -100,42 +92,65 @@ fn emit_core(
     match plan {
         Plan::Idle => CoreAnswer::Accepted(core),
         Plan::Refuse(refusal) => CoreAnswer::Refused(refusal),
-        Plan::Go(size, after, _) => CoreAnswer::Accepted(commit(
-            core,
-            location,
-            opcode,
-            operand,
-            kwnames,
-            size,
-            after,
-            code,
-            locations,
-        )),
+        Plan::Go(after, _, size) => {
+            // the slice made anew: copied whole it keeps this function a call, with the state in memory
+            let rows = commit(
+                core,
+                location,
+                opcode,
+                operand,
+                &kwnames[0..],
+                code,
+                locations,
+            );
+            CoreAnswer::Accepted(Core {
+                code: core.code + size,
+                locations: rows,
+                marks: core.marks,
+                depth: after,
+            })
+        }
     }
 }
 
-// Emits an instruction, records its location and follows the depth. In dead code nothing changes. `name` is the name in
-// the operand, 0 without one.
-pub fn emit_with_operand(
+// Emits an instruction with its keyword names, records its location and follows the depth. In dead code nothing changes.
+pub fn emit_with_names(
     b: Builder,
     opcode: u8,
-    name: u32,
     operand: Operand,
     kwnames: &[u16],
     code: &mut [u8],
     locations: &mut [u32],
 ) -> Answer
-    ensures { λ r. ⌜ outcome r (now (code .exit)) (now (locations .exit)) ≡ emitNamed b opcode name operand (now (kwnames .entry)) (now (code .entry)) (now (locations .entry)) ⌝ }
+    ensures { λ r. ⌜ outcome r (now (code .exit)) (now (locations .exit)) ≡ emitOf b opcode operand (now (kwnames .entry)) (now (code .entry)) (now (locations .entry)) ⌝ }
 {
     let core = b.core;
     let location = b.location;
+    let answer = emit_core(core, location, opcode, 0, operand, kwnames, code, locations);
+    states::answer_by(b, answer)
+}
+
+// The same of an instruction that has none. `name` is the name in the operand, 0 without one.
+pub fn emit_with_operand(
+    b: Builder,
+    opcode: u8,
+    name: u32,
+    operand: Operand,
+    code: &mut [u8],
+    locations: &mut [u32],
+) -> Answer
+    ensures { λ r. ⌜ outcome r (now (code .exit)) (now (locations .exit)) ≡ emitNamed b opcode name operand [] (now (code .entry)) (now (locations .entry)) ⌝ }
+{
+    let core = b.core;
+    let location = b.location;
+    let none: [u16; 0] = [];
     let answer = emit_core(
         core,
         location,
         opcode,
         name,
         operand,
-        kwnames,
+        &none,
         code,
         locations,
     );

@@ -1,6 +1,7 @@
 // Constants and exception handlers.
 ghost use mathlib.Core.Path.{_≡_};
-ghost use Rattle.builder.specs.Calls.{addedKept, addConstOf, kept, kindNumber, offsetsFit, withConstants, withExceptions, addExceptionOf};
+ghost use Rattle.code.specs.Entries.{kindNumber};
+ghost use Rattle.builder.specs.Calls.{addedKept, addConstOf, kept, offsetsFit, withConstants, withExceptions, addExceptionOf};
 use crate::Added;
 use crate::Answer;
 use crate::Builder;

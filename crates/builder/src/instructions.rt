@@ -69,10 +69,9 @@ pub fn emit_call_function_kw(
     ensures { λ r. ⌜ outcome r (now (code .exit)) (now (locations .exit)) ≡ emitOf b CallFunctionKw (Operand.CallKw positional (length (now (kwnames .entry)) % 256)) (now (kwnames .entry)) (now (code .entry)) (now (locations .entry)) ⌝ }
 {
     let names = count_byte(kwnames.len());
-    emitting::emit_with_operand(
+    emitting::emit_with_names(
         b,
         opcodes::CALL_FUNCTION_KW,
-        0,
         Operand::CallKw { positional, names },
         kwnames,
         code,
@@ -92,10 +91,9 @@ pub fn emit_call_attr_kw(
     ensures { λ r. ⌜ outcome r (now (code .exit)) (now (locations .exit)) ≡ emitOf b CallAttrKw (Operand.CallAttrKw attribute positional (length (now (kwnames .entry)) % 256)) (now (kwnames .entry)) (now (code .entry)) (now (locations .entry)) ⌝ }
 {
     let names = count_byte(kwnames.len());
-    emitting::emit_with_operand(
+    emitting::emit_with_names(
         b,
         opcodes::CALL_ATTR_KW,
-        0,
         Operand::CallAttrKw {
             attribute,
             positional,
@@ -123,14 +121,12 @@ pub fn emit_raise_unbound_local(
 ) -> Answer
     ensures { λ r. ⌜ outcome r (now (code .exit)) (now (locations .exit)) ≡ emitNamed b RaiseUnboundLocal name (Operand.U16 (name % 65536)) [] (now (code .entry)) (now (locations .entry)) ⌝ }
 {
-    let none: [u16; 0] = [];
     let word = name_word(name);
     emitting::emit_with_operand(
         b,
         opcodes::RAISE_UNBOUND_LOCAL,
         name,
         Operand::U16(word),
-        &none,
         code,
         locations,
     )
@@ -146,14 +142,12 @@ pub fn emit_load_global_callable(
 ) -> Answer
     ensures { λ r. ⌜ outcome r (now (code .exit)) (now (locations .exit)) ≡ emitNamed b LoadGlobalCallable name (Operand.U16U16 slot (name % 65536)) [] (now (code .entry)) (now (locations .entry)) ⌝ }
 {
-    let none: [u16; 0] = [];
     let word = name_word(name);
     emitting::emit_with_operand(
         b,
         opcodes::LOAD_GLOBAL_CALLABLE,
         name,
         Operand::U16U16(slot, word),
-        &none,
         code,
         locations,
     )
@@ -171,14 +165,12 @@ pub fn emit_name_op(
 ) -> Answer
     ensures { λ r. ⌜ outcome r (now (code .exit)) (now (locations .exit)) ≡ emitNamed b opcode name (Operand.U16U16U8 slot (name % 65536) flags) [] (now (code .entry)) (now (locations .entry)) ⌝ }
 {
-    let none: [u16; 0] = [];
     let word = name_word(name);
     emitting::emit_with_operand(
         b,
         opcode,
         name,
         Operand::U16U16U8(slot, word, flags),
-        &none,
         code,
         locations,
     )

@@ -1,6 +1,6 @@
 // Deciding and writing a jump forward.
 ghost use Prim.Native.Nat.{_<_, _/_};
-ghost use Rattle.builder.specs.Jumps.{takenPlan, jumpPlanOf, JumpGoes, JumpCommitted, alsoMark};
+ghost use Rattle.builder.specs.Jumps.{takenPlan, jumpPlanOf, JumpGoes, JumpCommitted};
 ghost use Rattle.builder.specs.Plan.{Sound};
 ghost use Rattle.op.specs.Depths.{takenDepthOf};
 ghost use lib.ListN.{length};
@@ -21,22 +21,6 @@ use op::Table;
 use op::depths;
 use op::opcodes;
 
-// The same plan, where the marks have room for a row.
-fn also_mark(plan: Plan, rows: usize, ml: usize) -> Plan
-    ensures { λ r. ⌜ r ≡ alsoMark plan rows ml ⌝ }
-{
-    match plan {
-        Plan::Idle => Plan::Idle,
-        Plan::Refuse(refusal) => Plan::Refuse(refusal),
-        Plan::Go(size, after, word) => {
-            if rows < ml / MARK_CELLS {
-                return Plan::Go(size, after, word);
-            }
-            Plan::Refuse(Refusal::Full(Table::Marks))
-        }
-    }
-}
-
 // What is decided of a forward jump in live code, at depth `d`.
 fn decide_jump_live(
     core: Core,
@@ -54,18 +38,9 @@ fn decide_jump_live(
     match taken {
         After::Refused(refusal) => Plan::Refuse(refusal),
         After::Depth(t) => {
-            let plan = deciding::decide_live(
-                core,
-                location,
-                d,
-                opcode,
-                Operand::Offset(0),
-                0,
-                t,
-                cl,
-                ll,
-            );
-            also_mark(plan, core.marks, ml)
+            let bytes = deciding::decide_bytes(core, d, opcode, Operand::Offset(0), 0, t, cl);
+            let plan = deciding::also_location(bytes, location, core.locations, ll);
+            deciding::also_row(plan, core.marks < ml / MARK_CELLS, Table::Marks)
         }
     }
 }
@@ -113,14 +88,12 @@ pub fn commit_jump(
     ensures { λ r. ⌜ JumpCommitted core location opcode size after t (now (code .entry)) (now (locations .entry)) (now (marks .entry)) r (now (code .exit)) (now (locations .exit)) (now (marks .exit)) ⌝ }
 {
     let none: [u16; 0] = [];
-    let next = emitting::commit(
+    let rows = emitting::commit(
         core,
         location,
         opcode,
         Operand::Offset(0),
         &none,
-        size,
-        after,
         code,
         locations,
     );
@@ -128,11 +101,10 @@ pub fn commit_jump(
     let at = core.code;
     let base = row * MARK_CELLS;
     store::row4(&mut marks[base..], marking::OPEN, at as u32, t as u32, 0);
-    let depth = next.depth;
     Core {
-        code: next.code,
-        locations: next.locations,
+        code: at + size,
+        locations: rows,
         marks: row + 1,
-        depth,
+        depth: after,
     }
 }

@@ -46,7 +46,7 @@ pub fn emit_jump(
     match plan {
         Plan::Idle => Jumped::Made(b, JumpLabel::Dead),
         Plan::Refuse(refusal) => Jumped::Refused(refusal),
-        Plan::Go(size, after, t) => {
+        Plan::Go(after, t, size) => {
             let row = core.marks;
             let next = jumping::commit_jump(
                 core,

@@ -112,9 +112,9 @@ pub enum CoreAnswer {
 pub enum Plan {
     Idle,
     Refuse(Refusal),
-    // the size of the instruction, or the offset of the jump to patch; the depth then; and a jump's taken depth or
-    // displacement, 0 elsewhere
-    Go(usize, Depth, u16),
+    // the depth then; a jump's taken depth or displacement, 0 elsewhere; and the size of the instruction, or the offset of
+    // the jump to patch. The number stands last, where a refusal has its own: else a plan is copied in halves
+    Go(Depth, u16, usize),
 }
 
 // A used mark with its offset and depth. Absent: the row is not used, or of no kind.

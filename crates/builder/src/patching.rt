@@ -33,9 +33,9 @@ fn decide_open(core: Core, offset: u32, depth: u32) -> Plan
         return Plan::Refuse(Refusal::JumpTooFar);
     }
     Plan::Go(
-        from,
         marking::revive(here, depth as u16),
         marking::bits_of(from, core.code),
+        from,
     )
 }
 
@@ -104,7 +104,7 @@ pub fn patch_jump(b: Builder, label: JumpLabel, code: &mut [u8], marks: &mut [u3
     match plan {
         Plan::Idle => Answer::Accepted(b),
         Plan::Refuse(refusal) => Answer::Refused(refusal),
-        Plan::Go(offset, after, w) => {
+        Plan::Go(after, w, offset) => {
             let next = commit_patch(core, i, offset, w, after, code, marks);
             Answer::Accepted(states::with_core(b, next))
         }

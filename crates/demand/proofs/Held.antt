@@ -44,7 +44,7 @@ module _ (b : Builder) (k : ℕ) (code locs : List ℕ) (within : b .core .code 
         ≤ length (commitOf p (b .core) (b .location) (encode k o ns) code locs .code)
     emit-held-by Idle e = within
     emit-held-by (Refuse r) e = within
-    emit-held-by (Go s a w) e =
+    emit-held-by (Go a w s) e =
         let g = plan-goes (b .core) (b .location) k name o (length ns) (length code) (length locs) s w a e in
         put-held (g .here) o ns 0 s w a (g .goes)
 
@@ -57,7 +57,7 @@ module _ (b : Builder) (k : ℕ) (code locs : List ℕ) (within : b .core .code 
         → afterJump (commitJump p b k code locs marks .answer) b .core .code ≤ length (commitJump p b k code locs marks .code)
     jump-held-by Idle e = within
     jump-held-by (Refuse r) e = within
-    jump-held-by (Go s a w) e =
+    jump-held-by (Go a w s) e =
         let g = forward-goes (b .core) (b .location) k (length code) (length locs) (length marks) s w a e in
         put-held (g .here) unpatched [] w s w a (g .goes)
 
@@ -70,7 +70,7 @@ module _ (b : Builder) (k : ℕ) (code locs : List ℕ) (within : b .core .code 
           → after (outcomeBy b (commitTo p (b .core) (b .location) k code locs) .answer) b .core .code ≤ length (commitTo p (b .core) (b .location) k code locs .code)
       to-held-by Idle e = within
       to-held-by (Refuse r) e = within
-      to-held-by (Go s a w) e =
+      to-held-by (Go a w s) e =
           let g = to-goes (b .core) (b .location) k t (length code) (length locs) marks s w a e in
           put-held (g .here) (jumpBy w) [] w s w a (g .goes)
 
@@ -79,7 +79,7 @@ module _ (b : Builder) (k : ℕ) (code locs : List ℕ) (within : b .core .code 
       to-held = to-held-by (toPlanOf (b .core) (b .location) k t (length code) (length locs) marks) refl
 
 module _ (b : Builder) (code marks : List ℕ) (within : b .core .code ≤ length code) where
-  patch-place : (x : JumpLabel) (o w : ℕ) (a : Depth) → patchPlanOf (b .core) x (length code) marks ≡ Go o a w → o + 3 ≤ b .core .code
+  patch-place : (x : JumpLabel) (o w : ℕ) (a : Depth) → patchPlanOf (b .core) x (length code) marks ≡ Go a w o → o + 3 ≤ b .core .code
   unfolding patchPlanOf
   patch-place L.Dead o w a e = absurd (guard-never (markable (b .core) (length code) (length marks)) Unsound o w a e)
   patch-place (L.Row i) o w a e =
@@ -90,7 +90,7 @@ module _ (b : Builder) (code marks : List ℕ) (within : b .core .code ≤ lengt
       → after (commitPatch p b x code marks .answer) b .core .code ≤ length (commitPatch p b x code marks .code)
   patch-held-by x Idle e = within
   patch-held-by x (Refuse r) e = within
-  patch-held-by x (Go o a w) e = omega (arith, length-put (o + 1) (wordBytes w) code (omega (arith, patch-place x o w a e)))
+  patch-held-by x (Go a w o) e = omega (arith, length-put (o + 1) (wordBytes w) code (omega (arith, patch-place x o w a e)))
 
   pub patch-held : (x : JumpLabel) → after (patchJumpOf b x code marks .answer) b .core .code ≤ length (patchJumpOf b x code marks .code)
   unfolding patchJumpOf

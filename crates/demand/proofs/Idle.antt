@@ -14,6 +14,7 @@ use Rattle.op.specs.declared.After.the-variants as A
 use Rattle.op.specs.declared.Operand.{Operand}
 use Rattle.op.specs.declared.Refusal.{Refusal}
 use Rattle.op.specs.declared.Refusal.the-variants.{UnknownOpcode, WrongShape, JumpTooFar, TooManyKeywords, NameTooLarge, DepthsDiffer, Full, Unsound}
+use Rattle.op.specs.declared.Table.{Table}
 use Rattle.op.specs.declared.Table.the-variants.{Code, Locations, Marks}
 use Rattle.op.specs.Shapes.{operandShape, sizeOf}
 use Rattle.code.specs.Decode.{namesIn}
@@ -28,42 +29,42 @@ use Rattle.builder.specs.declared.Mark.the-variants.{Absent, Open, Patched, Tar
 use Rattle.builder.specs.declared.Plan.{Plan}
 use Rattle.builder.specs.declared.Plan.the-variants.{Idle, Refuse, Go}
 use Rattle.builder.specs.Tables.{codeLimit, wordMax, markCells, rowsIn, rowFree}
-use Rattle.builder.specs.Plan.{guard, soundOf, behind, roomOf, fallenOf, liveOf, depthOf, planOf, rowFits}
+use Rattle.builder.specs.Plan.{guard, soundOf, behind, alsoRow, roomOf, fallenOf, bytesOf, liveOf, depthOf, planOf, rowFits}
 use Rattle.builder.specs.Marks.{targetMark, markSound, meets, revived, bits, near}
-use Rattle.builder.specs.Jumps.{unpatched, jumpBy, jumpPlanOf, alsoMark, takenPlan, jumpDepth}
+use Rattle.builder.specs.Jumps.{unpatched, jumpBy, jumpPlanOf, takenPlan, jumpDepth}
 use Rattle.builder.specs.Jumps.{spotOf, aimOf, toLiveOf, toDepth, toPlanOf}
 use Rattle.builder.specs.Patch.{openPlan, markPlanOf}
 
 never : {B : Type 0} {r : Refusal} → Refuse r ≡ Idle → B
 never e = let z : _≡_ {A = ℕ} 0 1 = cc in absurd (omega arith)
 
-go-busy : (s w : ℕ) (a : Depth) → Go s a w ≡ Idle → ⊥
+go-busy : (s w : ℕ) (a : Depth) → Go a w s ≡ Idle → ⊥
 go-busy s w a e = let z : _≡_ {A = ℕ} 0 1 = cc in omega arith
 
 guard-idle : (t : Bool) (r : Refusal) (p : Plan) → guard t r p ≡ Idle → p ≡ Idle
 guard-idle true r p e = e
 guard-idle false r p e = never e
 
-module _ (c : Core) (l : Location) (cl ll : ℕ) where
-  by-fallen : (k size word : ℕ) (x : After) → fallenOf x c l k size word cl ll ≡ Idle → ⊥
-  unfolding roomOf
-  by-fallen k size word (A.Refused r) e = never e
-  by-fallen k size word (A.Depth d) e =
-      let p3 : Plan = Go size (behind k d) word in
-      let p2 : Plan = guard (rowFits l (c .locations) ll) (Full Locations) p3 in
-      let p1 : Plan = guard (leb size (codeLimit - c .code)) (Full Code) p2 in
-      go-busy size word (behind k d)
-      (guard-idle (rowFits l (c .locations) ll) (Full Locations) p3
-      (guard-idle (leb size (codeLimit - c .code)) (Full Code) p2
-      (guard-idle (leb size (cl - c .code)) (Full Code) p1 e)))
+also-idle : (p : Plan) (free : Bool) (t : Table) → alsoRow p free t ≡ Idle → p ≡ Idle
+also-idle Idle free t e = refl
+also-idle (Refuse r) free t e = never e
+also-idle (Go a w s) free t e = guard-idle free (Full t) (Go a w s) e
 
-  live-busy : (d k : ℕ) (o : Operand) (n word : ℕ) → liveOf c l d k o n word cl ll ≡ Idle → ⊥
-  unfolding liveOf
-  live-busy d k o n word e =
-      let p2 : Plan = fallenOf (afterOf d k o) c l k (sizeOf (operandShape o) n) word cl ll in
-      by-fallen k (sizeOf (operandShape o) n) word (afterOf d k o)
-      (guard-idle (eqb (namesIn o) n) WrongShape p2
-      (guard-idle (leb n 255) TooManyKeywords (guard (eqb (namesIn o) n) WrongShape p2) e))
+by-fallen : (at k size word cl : ℕ) (x : After) → fallenOf x at k size word cl ≡ Idle → ⊥
+unfolding roomOf
+by-fallen at k size word cl (A.Refused r) e = never e
+by-fallen at k size word cl (A.Depth d) e =
+    let p2 : Plan = Go (behind k d) word size in
+    let p1 : Plan = guard (leb size (codeLimit - at)) (Full Code) p2 in
+    go-busy size word (behind k d) (guard-idle (leb size (codeLimit - at)) (Full Code) p2 (guard-idle (leb size (cl - at)) (Full Code) p1 e))
+
+live-busy : (c : Core) (l : Location) (cl ll d k : ℕ) (o : Operand) (n word : ℕ) → liveOf c l d k o n word cl ll ≡ Idle → ⊥
+unfolding liveOf bytesOf
+live-busy c l cl ll d k o n word e =
+    let p2 : Plan = fallenOf (afterOf d k o) (c .code) k (sizeOf (operandShape o) n) word cl in
+    let p1 : Plan = guard (eqb (namesIn o) n) WrongShape p2 in
+    let e1 = also-idle (guard (leb n 255) TooManyKeywords p1) (rowFits l (c .locations) ll) Locations e in
+    by-fallen (c .code) k (sizeOf (operandShape o) n) word cl (afterOf d k o) (guard-idle (eqb (namesIn o) n) WrongShape p2 (guard-idle (leb n 255) TooManyKeywords p1 e1))
 
 pub plan-idle : (c : Core) (l : Location) (k name : ℕ) (o : Operand) (n cl ll : ℕ) → planOf c l k name o n cl ll ≡ Idle → c .depth ≡ Dead
 unfolding planOf
@@ -89,14 +90,9 @@ jump-idle c l k cl ll ml e =
     (guard-idle (rowsIn markCells (c .marks) ml) Unsound p2
     (guard-idle (soundOf c cl ll) Unsound (guard (rowsIn markCells (c .marks) ml) Unsound p2) e)))
   where
-    also : (p : Plan) → alsoMark p (c .marks) ml ≡ Idle → p ≡ Idle
-    also Idle e = refl
-    also (Refuse r) e = never e
-    also (Go s a w) e = guard-idle (rowFree markCells (c .marks) ml) (Full Marks) (Go s a w) e
-
     arrives : (d : ℕ) (x : After) → takenPlan x c l d k cl ll ml ≡ Idle → ⊥
     arrives d (A.Refused r) e = never e
-    arrives d (A.Depth t) e = live-busy c l cl ll d k unpatched 0 t (also (liveOf c l d k unpatched 0 t cl ll) e)
+    arrives d (A.Depth t) e = live-busy c l cl ll d k unpatched 0 t (also-idle (liveOf c l d k unpatched 0 t cl ll) (rowFree markCells (c .marks) ml) Marks e)
 
     go : (x : Depth) → c .depth ≡ x → jumpDepth x c l k cl ll ml ≡ Idle → c .depth ≡ Dead
     go Dead q e = q
@@ -137,7 +133,7 @@ to-idle c l k t cl ll marks e =
     go (Live d) q e = absurd (arrives d (takenDepthOf d k) (targetMark t (c .marks) marks) e)
 
 -- a label that is Dead has nothing to patch, and a mark is never idle
-pub guard-never : (t : Bool) (r : Refusal) (s w : ℕ) (a : Depth) → guard t r Idle ≡ Go s a w → ⊥
+pub guard-never : (t : Bool) (r : Refusal) (s w : ℕ) (a : Depth) → guard t r Idle ≡ Go a w s → ⊥
 guard-never true r s w a e = let z : _≡_ {A = ℕ} 0 1 = cc in omega arith
 guard-never false r s w a e = let z : _≡_ {A = ℕ} 0 1 = cc in omega arith
 
@@ -150,6 +146,6 @@ mark-busy m c e = go m (guard-idle (markSound (c .code) m) Unsound (openPlan m c
     go (Target o d) e = never e
     go (Patched o d) e = never e
     go (Open o d) e =
-        let p : Plan = Go o (revived (c .depth) d) (bits o (c .code)) in
+        let p : Plan = Go (revived (c .depth) d) (bits o (c .code)) o in
         go-busy o (bits o (c .code)) (revived (c .depth) d)
         (guard-idle (near o (c .code)) JumpTooFar p (guard-idle (meets (c .depth) d) DepthsDiffer (guard (near o (c .code)) JumpTooFar p) e))

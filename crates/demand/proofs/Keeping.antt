@@ -39,7 +39,7 @@ module _ (b : Builder) (r : Refusal) where
         → (commitOf p (b .core) (b .location) (encode k o ns) code locs .code ≡ code) × (commitOf p (b .core) (b .location) (encode k o ns) code locs .locations ≡ locs)
     emit-by Idle e = (refl, refl)
     emit-by (Refuse q) e = (refl, refl)
-    emit-by (Go s a w) e = (cc, cc)
+    emit-by (Go a w s) e = (cc, cc)
 
     pub emit-refused : emitNamed b k name o ns code locs .answer ≡ Refused r
         → (emitNamed b k name o ns code locs .code ≡ code) × (emitNamed b k name o ns code locs .locations ≡ locs)
@@ -51,7 +51,7 @@ module _ (b : Builder) (r : Refusal) where
         → (commitJump p b k code locs marks .code ≡ code) × (commitJump p b k code locs marks .locations ≡ locs) × (commitJump p b k code locs marks .marks ≡ marks)
     jump-by Idle e = (refl, refl, refl)
     jump-by (Refuse q) e = (refl, refl, refl)
-    jump-by (Go s a w) e = (cc, cc, cc)
+    jump-by (Go a w s) e = (cc, cc, cc)
 
     pub jump-refused : emitJumpOf b k code locs marks .answer ≡ J.Refused r
         → (emitJumpOf b k code locs marks .code ≡ code) × (emitJumpOf b k code locs marks .locations ≡ locs) × (emitJumpOf b k code locs marks .marks ≡ marks)
@@ -62,7 +62,7 @@ module _ (b : Builder) (r : Refusal) where
         → (commitTo p (b .core) (b .location) k code locs .code ≡ code) × (commitTo p (b .core) (b .location) k code locs .locations ≡ locs)
     to-by Idle e = (refl, refl)
     to-by (Refuse q) e = (refl, refl)
-    to-by (Go s a w) e = (cc, cc)
+    to-by (Go a w s) e = (cc, cc)
 
     pub to-refused : (t : JumpTarget) → emitJumpToOf b k t code locs marks .answer ≡ Refused r
         → (emitJumpToOf b k t code locs marks .code ≡ code) × (emitJumpToOf b k t code locs marks .locations ≡ locs)
@@ -74,7 +74,7 @@ module _ (b : Builder) (r : Refusal) where
         → (commitPatch p b l code marks .code ≡ code) × (commitPatch p b l code marks .marks ≡ marks)
     patch-by Idle e = (refl, refl)
     patch-by (Refuse q) e = (refl, refl)
-    patch-by (Go o a w) e = (cc, cc)
+    patch-by (Go a w o) e = (cc, cc)
 
     pub patch-refused : patchJumpOf b l code marks .answer ≡ Refused r → (patchJumpOf b l code marks .code ≡ code) × (patchJumpOf b l code marks .marks ≡ marks)
     unfolding patchJumpOf

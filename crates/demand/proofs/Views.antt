@@ -65,7 +65,7 @@ module _ (b : Builder) (k name : ℕ) (o : Operand) (ns code locs marks starts :
       (viewOf (after (outcomeBy b (commitOf p (b .core) (b .location) (encode k o ns) code locs) .answer) b) (commitOf p (b .core) (b .location) (encode k o ns) code locs .code) marks starts)
   emit-by Idle e = dead-emit (plan-idle (b .core) (b .location) k name o (length ns) (length code) (length locs) e)
   emit-by (Refuse r) e = refused
-  emit-by (Go s a w) e =
+  emit-by (Go a w s) e =
       let g = plan-goes (b .core) (b .location) k name o (length ns) (length code) (length locs) s w a e in
       rw (code-grows (b .core) (b .location) (g .here) k o ns 0 code (length locs) s a w (g .sound .code) (g .goes), g .goes .depth)
       (emitted (g .here) (g .goes .next) (g .live) (g .goes .count) (g .goes .few) (g .goes .falls))
@@ -92,7 +92,7 @@ module _ (b : Builder) (k : ℕ) (code locs marks starts : List ℕ) where
       (viewOf (afterJump (commitJump p b k code locs marks .answer) b) (commitJump p b k code locs marks .code) (commitJump p b k code locs marks .marks) starts)
   jump-by Idle e = dead-jump (jump-idle (b .core) (b .location) k (length code) (length locs) (length marks) e)
   jump-by (Refuse r) e = refused
-  jump-by (Go s a w) e =
+  jump-by (Go a w s) e =
       let c = b .core in
       let g = forward-goes c (b .location) k (length code) (length locs) (length marks) s w a e in
       rw (
@@ -117,7 +117,7 @@ module _ (b : Builder) (k : ℕ) (t : JumpTarget) (code locs marks starts : List
       (viewOf (after (outcomeBy b (commitTo p (b .core) (b .location) k code locs) .answer) b) (commitTo p (b .core) (b .location) k code locs .code) marks starts)
   to-by Idle e = dead-to (to-idle (b .core) (b .location) k t (length code) (length locs) marks e)
   to-by (Refuse r) e = refused
-  to-by (Go s a w) e =
+  to-by (Go a w s) e =
       let c = b .core in
       let g = to-goes c (b .location) k t (length code) (length locs) marks s w a e in
       let u = mark-used (c .marks) marks (g .row) (Target (g .offset) (g .depth)) (g .mark) (λ n. let z : _≡_ {A = ℕ} 0 1 = cc in omega arith) in
@@ -142,7 +142,7 @@ module _ (b : Builder) (code marks starts : List ℕ) where
       (viewOf (after (commitPatch p b L.Dead code marks .answer) b) (commitPatch p b L.Dead code marks .code) (commitPatch p b L.Dead code marks .marks) starts)
   dead-by Idle e = dead-patch
   dead-by (Refuse r) e = refused
-  dead-by (Go o a w) e = absurd (guard-never (markable (b .core) (length code) (length marks)) _ o w a e)
+  dead-by (Go a w o) e = absurd (guard-never (markable (b .core) (length code) (length marks)) _ o w a e)
 
   module _ (i : ℕ) where
     row-by : (p : Plan) → markable (b .core) (length code) (length marks) ≡ true → markPlanOf (markIn (b .core .marks) marks i) (b .core) ≡ p
@@ -150,7 +150,7 @@ module _ (b : Builder) (code marks starts : List ℕ) where
         (viewOf (after (commitPatch p b (L.Row i) code marks .answer) b) (commitPatch p b (L.Row i) code marks .code) (commitPatch p b (L.Row i) code marks .marks) starts)
     row-by Idle sd e = absurd (mark-busy (markIn (b .core .marks) marks i) (b .core) e)
     row-by (Refuse r) sd e = refused
-    row-by (Go o a w) sd e =
+    row-by (Go a w o) sd e =
         let c = b .core in
         let h = markable-true c (length code) (length marks) sd in
         let g = patch-goes c o w a (markIn (c .marks) marks i) e in

@@ -56,7 +56,7 @@ module _ (b : Builder) where
       go : (p : Plan) → afterJump (commitJump p b k code locs marks .answer) b .starts ≡ b .starts
       go Idle = refl
       go (Refuse r) = refl
-      go (Go s a w) = refl
+      go (Go a w s) = refl
 
   pub patch-starts : (l : JumpLabel) (code marks : List ℕ) → after (patchJumpOf b l code marks .answer) b .starts ≡ b .starts
   unfolding patchJumpOf
@@ -65,7 +65,7 @@ module _ (b : Builder) where
       go : (p : Plan) → after (commitPatch p b l code marks .answer) b .starts ≡ b .starts
       go Idle = refl
       go (Refuse r) = refl
-      go (Go o a w) = refl
+      go (Go a w o) = refl
 
   -- a target keeps both counts
   abbrev TargetKeeps : TargetOutcome → Type 0

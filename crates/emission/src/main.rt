@@ -1,5 +1,5 @@
 // Emits ten million instructions for bench/ to measure, in rounds of one rule each: a constant, a small number, a sum, a store, a
-// load, a jump with its patch and a Nop over and over, all with locations. Reads nothing; writes the last rule's size as two
+// load, a jump with its patch and a Nop over and over, then a call with keyword names, all with locations. Reads nothing; writes the last rule's size as two
 // bytes, so that no work can be left out.
 use builder::Answer;
 use builder::Builder;
@@ -73,6 +73,31 @@ fn turn(
     eight
 }
 
+// A call with keyword names and its return, at the rule's end.
+fn ending(b: Builder, code: &mut [u8; 65536], locations: &mut [u32; 106000]) -> Builder {
+    let Answer::Accepted(one) = instructions::emit_load_local(b, 0, code, locations) else {
+        return b;
+    };
+    let Answer::Accepted(two) = instructions::emit_load_local(one, 1, code, locations) else {
+        return one;
+    };
+    let kwnames: [u16; 1] = [7];
+    let Answer::Accepted(three) = instructions::emit_call_function_kw(
+        two,
+        0,
+        &kwnames,
+        code,
+        locations,
+    ) else {
+        return two;
+    };
+    let Answer::Accepted(four) = emission::emit(three, opcodes::RETURN_VALUE, code, locations)
+    else {
+        return three;
+    };
+    four
+}
+
 // One rule, from a new builder on; its size.
 fn rule(
     code: &mut [u8; 65536],
@@ -90,7 +115,8 @@ fn rule(
         b = turn(b, i, code, locations, marks);
         i += 1;
     }
-    queries::current_offset(b)
+    let whole = ending(b, code, locations);
+    queries::current_offset(whole)
 }
 
 // All rounds; the last rule's size.

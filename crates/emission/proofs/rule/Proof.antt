@@ -39,6 +39,9 @@ loop-less c = search needs
 loop-again : tie.Need-loop-again Inv-loop μ-loop
 loop-again c = search needs
 
+ending-requires : tie.Need-ending-requires Inv-loop μ-loop
+ending-requires c κs = search needs
+
 current-offset-requires : tie.Need-current-offset-requires Inv-loop μ-loop
 current-offset-requires c κs = search needs
 
@@ -60,5 +63,6 @@ rule-spec =
     add-i
     loop-less
     loop-again
+    ending-requires
     current-offset-requires
     returns-2)

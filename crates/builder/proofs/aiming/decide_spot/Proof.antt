@@ -1,6 +1,7 @@
 -- `builder::aiming::decide_spot` meets its contract: an arm for each variant, and the definition's tests.
 -- Assumes nothing.
 use Rattle.builder.proofs.JumpPlans.{live-jump, near-true}
+use Rattle.builder.proofs.Plans.{live-from}
 use Rattle.code.specs.Bytes.{signed}
 use borrow.Author.Needs.{needs}
 use borrow.Author.Tests.{eq-eqb, ne-eqb, not-false, not-true}
@@ -46,8 +47,11 @@ bits-of-requires c κs =
 to-i16-requires : tie.Need-to-i16-requires
 to-i16-requires c κs = search needs
 
-decide-live-requires : tie.Need-decide-live-requires
-decide-live-requires c κs = search needs
+decide-bytes-requires : tie.Need-decide-bytes-requires
+decide-bytes-requires c κs = search needs
+
+also-location-requires : tie.Need-also-location-requires
+also-location-requires c κs = search needs
 
 returns-3 : tie.Need-returns-3
 returns-3 c = rw (c .enum-told .given .1) refl
@@ -60,9 +64,10 @@ returns-5 c = rw (c .enum-told3 .given .1) refl
 
 returns-6 : tie.Need-returns-6
 returns-6 c =
-    let a = c .before .before .before .before .before .before .before .before .before .args in
-    simp (c .before .before .before .before .before .before .before .mark .given .1, eq-eqb _ _ (c .before .before .before .before .before .if1 .left), sym (c .before .before .before .before .is-near .ensures) ∙ not-false _ (c .before .before .before .if2 .left))
-    (c .decide-live .ensures ∙ live-jump (a .core) (a .location) (a .d) (a .opcode) (a .cl) (a .ll) _ _ _ (toZ-ofZ {w = w16} (record { sfits = c .before .to-i16 .ok }) ∙ c .before .to-i16 .ensures ∙ ap (signed 65536) (c .before .before .bits-of .ensures)) (c .before .before .bits-of .ensures))
+    let a = c .before .before .before .before .before .before .before .before .before .before .args in
+    let live = live-from (a .core) (a .location) (a .cl) (a .ll) (a .d) (a .opcode) _ 0 _ _ _ (c .before .decide-bytes .ensures) (c .also-location .ensures) in
+    simp (c .before .before .before .before .before .before .before .before .mark .given .1, eq-eqb _ _ (c .before .before .before .before .before .before .if1 .left), sym (c .before .before .before .before .before .is-near .ensures) ∙ not-false _ (c .before .before .before .before .if2 .left))
+    (live ∙ live-jump (a .core) (a .location) (a .d) (a .opcode) (a .cl) (a .ll) _ _ _ (toZ-ofZ {w = w16} (record { sfits = c .before .before .to-i16 .ok }) ∙ c .before .before .to-i16 .ensures ∙ ap (signed 65536) (c .before .before .before .bits-of .ensures)) (c .before .before .before .bits-of .ensures))
 
 pub decide-spot-spec : {M : Type 1} → statement M
 decide-spot-spec =
@@ -79,7 +84,8 @@ decide-spot-spec =
     cast-bits-of
     bits-of-requires
     to-i16-requires
-    decide-live-requires
+    decide-bytes-requires
+    also-location-requires
     returns-3
     returns-4
     returns-5

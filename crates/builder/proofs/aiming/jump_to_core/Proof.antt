@@ -1,12 +1,13 @@
 -- `builder::aiming::jump_to_core` meets its contract: each plan is what the model says.
 -- Assumes nothing.
-use Rattle.builder.proofs.JumpPlans.{jumped-to, to-writes}
+use Rattle.builder.proofs.JumpPlans.{jumped-to, to-goes, to-writes}
 use Rattle.builder.specs.Tables.{put}
 use Rattle.builder.specs.declared.Plan.the-variants.{Go, Idle, Refuse}
 use Rattle.code.specs.Encode.{encode}
 use borrow.Author.Needs.{needs}
 use mathlib.Core.List.{[]}
 use mathlib.Core.Path.{_∙_, ap, sym}
+use native.Mathlib.Omega.{arith}
 use mir.Syntax.{w16}
 use mir.Facts.{toZ-ofZ}
 use lib.IntN.{ℤ}
@@ -37,6 +38,12 @@ commit-requires c κs =
     let a = c .before .before .before .before .before .before .before .before .before .before .before .args in
     to-writes (a .core) (a .location) (a .opcode) (a .target) _ _ (a .marks .now) _ _ _ _ (toZ-ofZ {w = w16} (record { sfits = c .before .before .before .to-i16 .ok }) ∙ c .before .before .before .to-i16 .ensures) (sym (c .before .before .before .before .before .before .before .decide-to .ensures) ∙ c .before .before .before .before .before .plan2 .given .1)
 
+add-t26 : tie.Need-add-t26
+add-t26 c =
+    let a = c .before .before .before .before .before .before .before .before .before .before .before .before .before .before .before .before .before .args in
+    let g = to-goes (a .core) (a .location) (a .opcode) (a .target) _ _ (a .marks .now) _ _ _ (sym (c .before .before .before .before .before .before .before .before .before .before .before .before .before .decide-to .ensures) ∙ c .before .before .before .before .before .before .before .before .before .before .before .plan2 .given .1) in
+    omega (arith, g .goes .limit, g .sound .limit)
+
 returns : tie.Need-returns
 returns c = let a = c .before .before .before .before .before .before .args in jumped-to (a .core) (a .location) (a .opcode) (a .target) (a .code .now) (a .locations .now) (a .marks .now) Idle (sym (c .before .before .decide-to .ensures) ∙ c .enum-told .given .1)
 
@@ -51,10 +58,10 @@ same-length-2 c = search needs
 
 returns-3 : tie.Need-returns-3
 returns-3 c =
-    let a = c .before .before .before .before .before .before .before .before .before .before .before .before .before .before .before .before .args in
-    let w = c .before .before .before .before .commit .ensures in
-    let e = w .bytes ∙ ap (λ (z : ℤ). put (a .core .code) (encode (a .opcode) (Offset z) []) (a .code .now)) (toZ-ofZ {w = w16} (record { sfits = c .before .before .before .before .before .before .before .before .to-i16 .ok }) ∙ c .before .before .before .before .before .before .before .before .to-i16 .ensures) in
-    rw (w .state, e, w .rows) (jumped-to (a .core) (a .location) (a .opcode) (a .target) (a .code .now) (a .locations .now) (a .marks .now) (Go _ _ _) (sym (c .before .before .before .before .before .before .before .before .before .before .before .before .decide-to .ensures) ∙ c .before .before .before .before .before .before .before .before .before .before .plan2 .given .1))
+    let a = c .before .before .before .before .before .before .before .before .before .before .before .before .before .before .before .before .before .args in
+    let w = c .before .before .before .before .before .commit .ensures in
+    let e = w .bytes ∙ ap (λ (z : ℤ). put (a .core .code) (encode (a .opcode) (Offset z) []) (a .code .now)) (toZ-ofZ {w = w16} (record { sfits = c .before .before .before .before .before .before .before .before .before .to-i16 .ok }) ∙ c .before .before .before .before .before .before .before .before .before .to-i16 .ensures) in
+    rw (w .count, e, w .rows) (jumped-to (a .core) (a .location) (a .opcode) (a .target) (a .code .now) (a .locations .now) (a .marks .now) (Go _ _ _) (sym (c .before .before .before .before .before .before .before .before .before .before .before .before .before .decide-to .ensures) ∙ c .before .before .before .before .before .before .before .before .before .before .before .plan2 .given .1))
 
 pub jump-to-core-spec : {M : Type 1} → statement M
 jump-to-core-spec =
@@ -67,6 +74,7 @@ jump-to-core-spec =
     to-i16-requires
     slice-aggregate-commit
     commit-requires
+    add-t26
     returns
     returns-2
     same-length

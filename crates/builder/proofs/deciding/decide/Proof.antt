@@ -1,6 +1,6 @@
 -- `builder::deciding::decide` meets its contract: its tests are the definition's, in document 01's order.
 -- Assumes nothing.
-use Rattle.builder.proofs.Plans.{sound-true}
+use Rattle.builder.proofs.Plans.{sound-true, live-from}
 use Rattle.builder.specs.Plan.{planOf}
 use Rattle.op.specs.Opcodes.{known}
 use borrow.Author.Needs.{needs}
@@ -34,12 +34,18 @@ returns-4 : tie.Need-returns-4
 unfolding planOf known
 returns-4 c = simp (sym (c .before .before .before .before .before .sound .ensures) ∙ not-false _ (c .before .before .before .before .if1 .left), le-leb _ _ (c .before .before .before .if2 .left), le-leb _ _ (c .before .before .if3 .left), c .enum-told .given .1)
 
-decide-live-requires : tie.Need-decide-live-requires
-decide-live-requires c κs = sound-true _ _ _ (sym (c .before .before .before .before .before .before .sound .ensures) ∙ not-false _ (c .before .before .before .before .before .if1 .left))
+decide-bytes-requires : tie.Need-decide-bytes-requires
+decide-bytes-requires c κs = let s = sound-true _ _ _ (sym (c .before .before .before .before .before .before .sound .ensures) ∙ not-false _ (c .before .before .before .before .before .if1 .left)) in (s .code, s .limit)
+
+also-location-requires : tie.Need-also-location-requires
+also-location-requires c κs = search needs
 
 returns-5 : tie.Need-returns-5
 unfolding planOf known
-returns-5 c = simp (sym (c .before .before .before .before .before .before .before .sound .ensures) ∙ not-false _ (c .before .before .before .before .before .before .if1 .left), le-leb _ _ (c .before .before .before .before .before .if2 .left), le-leb _ _ (c .before .before .before .before .if3 .left), c .before .before .depth .given .1) (c .decide-live .ensures)
+returns-5 c =
+    let a = c .before .before .before .before .before .before .before .before .before .args in
+    simp (sym (c .before .before .before .before .before .before .before .before .sound .ensures) ∙ not-false _ (c .before .before .before .before .before .before .before .if1 .left), le-leb _ _ (c .before .before .before .before .before .before .if2 .left), le-leb _ _ (c .before .before .before .before .before .if3 .left), c .before .before .before .depth .given .1)
+    (live-from (a .core) (a .location) (a .cl) (a .ll) _ (a .opcode) (a .operand) (a .n) 0 _ _ (c .before .decide-bytes .ensures) (c .also-location .ensures))
 
 pub decide-spec : {M : Type 1} → statement M
 decide-spec =
@@ -52,5 +58,6 @@ decide-spec =
     enum-known-depth
     enum-told
     returns-4
-    decide-live-requires
+    decide-bytes-requires
+    also-location-requires
     returns-5)

@@ -11,9 +11,6 @@ use Rattle.op.specs.declared.Operand.the-variants.{I8}
 use Rattle.builder.proofs.emission.emit_i8.Statement.{statement}
 use Rattle.builder.proofs.emission.emit_i8.Tie as tie
 
-slice-aggregate-emit-with-operand : tie.Need-slice-aggregate-emit-with-operand
-slice-aggregate-emit-with-operand c = search needs
-
 emit-with-operand-requires : tie.Need-emit-with-operand-requires
 emit-with-operand-requires c κs = search needs
 
@@ -25,16 +22,8 @@ same-length-2 c = search needs
 
 returns : tie.Need-returns
 returns c =
-    let a = c .before .before .before .before .before .before .before .before .before .before .args in
-    c .before .before .before .before .emit-with-operand .ensures
-    ∙ ap (λ (z : ℤ). emitNamed (a .b) (a .opcode) 0 (I8 z) [] (a .code .now) (a .locations .now)) (toZ-ofZ {w = w8} (c .before .before .before .before .before .before .before .before .before .before .fits .operand))
+    let a = c .before .before .before .before .before .before .before .before .before .args in
+    c .before .before .before .before .emit-with-operand .ensures ∙ ap (λ (z : ℤ). emitNamed (a .b) (a .opcode) 0 (I8 z) [] (a .code .now) (a .locations .now)) (toZ-ofZ {w = w8} (c .before .before .before .before .before .before .before .before .before .fits .operand))
 
 pub emit-i8-spec : {M : Type 1} → statement M
-emit-i8-spec =
-    tie.close
-    (tie.spec
-    slice-aggregate-emit-with-operand
-    emit-with-operand-requires
-    same-length
-    same-length-2
-    returns)
+emit-i8-spec = tie.close (tie.spec emit-with-operand-requires same-length same-length-2 returns)

@@ -6,7 +6,6 @@ use Rattle.code.proofs.Inverse.{length-encode}
 use Rattle.code.specs.Encode.{encode}
 use borrow.Author.Needs.{needs}
 use lib.ListN.{length}
-use mathlib.Core.Path.{refl}
 use native.Mathlib.Omega.{arith}
 use Rattle.builder.proofs.emitting.commit.Statement.{statement}
 use Rattle.builder.proofs.emitting.commit.Tie as tie
@@ -26,9 +25,6 @@ write-requires c κs = search needs
 write-location-requires : tie.Need-write-location-requires
 write-location-requires c κs = search needs
 
-add-t14 : tie.Need-add-t14
-add-t14 c = search needs
-
 same-length : tie.Need-same-length
 same-length c = search needs
 
@@ -41,10 +37,10 @@ returns c =
     let p = c .before .before .before .before .before .before .before .before .before .before .before .pre in
     let w = c .before .before .write-location in
     let z = length-encode (a .opcode) (a .operand) (a .kwnames .now) (p .count) in
-    let h : a .core .code + length (encode (a .opcode) (a .operand) (a .kwnames .now)) ≤ length (a .code .now) = omega (arith, z, p .size, p .code, p .sound .code) in
+    let h : a .core .code + length (encode (a .opcode) (a .operand) (a .kwnames .now)) ≤ length (a .code .now) = omega (arith, z, p .code, p .sound .code) in
     record {
-      state = rw (w .ensures .0) refl;
-      bytes = written-put (a .opcode) (a .operand) (a .kwnames .now) (a .code .now) (a .core .code) (a .size) _ _ (c .before .before .before .before .before .before .write .ensures) (p .written) h;
+      count = w .ensures .0;
+      bytes = written-put (a .opcode) (a .operand) (a .kwnames .now) (a .code .now) (a .core .code) _ _ _ (c .before .before .before .before .before .before .write .ensures) (p .written) h;
       rows = w .ensures .1;
     }
 
@@ -57,7 +53,6 @@ commit-spec =
     part-write-end
     write-requires
     write-location-requires
-    add-t14
     same-length
     same-length-2
     returns)

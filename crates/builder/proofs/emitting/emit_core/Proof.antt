@@ -1,10 +1,12 @@
 -- `builder::emitting::emit_core` meets its contract: each plan is what the model says.
 -- Assumes nothing.
 use Rattle.builder.proofs.Emitted.{emitted}
-use Rattle.builder.proofs.Plans.{goes}
+use Rattle.builder.proofs.Plans.{goes, plan-goes}
 use Rattle.builder.specs.declared.Plan.the-variants.{Go, Idle, Refuse}
 use borrow.Author.Needs.{needs}
+use borrow.Rule.Slice.PartAt.{part-to-end}
 use mathlib.Core.Path.{_∙_, sym}
+use native.Mathlib.Omega.{arith}
 use Rattle.builder.proofs.emitting.emit_core.Statement.{statement}
 use Rattle.builder.proofs.emitting.emit_core.Tie as tie
 
@@ -20,8 +22,22 @@ enum-known-plan c = search needs
 enum-known-plan-2 : tie.Need-enum-known-plan-2
 enum-known-plan-2 c = search needs
 
+sub-commit : tie.Need-sub-commit
+sub-commit c = search needs
+
+part-commit-start : tie.Need-part-commit-start
+part-commit-start c = search needs
+
+part-commit-end : tie.Need-part-commit-end
+part-commit-end c = search needs
+
 commit-requires : tie.Need-commit-requires
-commit-requires c κs = goes _ _ (c .before .before .before .before .before .before .before .before .before .args .opcode) (c .before .before .before .before .before .before .before .before .before .args .name) _ _ _ _ _ _ _ (sym (c .before .before .before .before .before .decide .ensures) ∙ c .before .before .before .plan2 .given .1)
+commit-requires c κs = rw (part-to-end (c .before .before .before .before .before .before .before .before .before .before .args .kwnames .now) 0) (goes _ _ (c .before .before .before .before .before .before .before .before .before .before .args .opcode) (c .before .before .before .before .before .before .before .before .before .before .args .name) _ _ _ _ _ _ _ (sym (c .before .before .before .before .before .before .decide .ensures) ∙ c .before .before .before .before .plan2 .given .1))
+
+add-t19 : tie.Need-add-t19
+add-t19 c =
+    let g = plan-goes _ _ (c .before .before .before .before .before .before .before .before .before .before .before .before .before .before .before .before .args .opcode) (c .before .before .before .before .before .before .before .before .before .before .before .before .before .before .before .before .args .name) _ _ _ _ _ _ _ (sym (c .before .before .before .before .before .before .before .before .before .before .before .before .decide .ensures) ∙ c .before .before .before .before .before .before .before .before .before .before .plan2 .given .1) in
+    omega (arith, g .goes .limit, g .sound .limit)
 
 returns : tie.Need-returns
 returns c = let a = c .before .before .before .before .before .before .args in emitted (a .core) (a .location) (a .opcode) (a .name) (a .operand) (a .kwnames .now) (a .code .now) (a .locations .now) Idle (sym (c .before .before .decide .ensures) ∙ c .enum-told .given .1)
@@ -37,9 +53,9 @@ same-length-2 c = search needs
 
 returns-3 : tie.Need-returns-3
 returns-3 c =
-    let a = c .before .before .before .before .before .before .before .before .before .before .before .before .before .before .args in
-    let w = c .before .before .before .before .commit .ensures in
-    rw (w .state, w .bytes, w .rows) (emitted (a .core) (a .location) (a .opcode) (a .name) (a .operand) (a .kwnames .now) (a .code .now) (a .locations .now) (Go _ _ _) (sym (c .before .before .before .before .before .before .before .before .before .before .decide .ensures) ∙ c .before .before .before .before .before .before .before .before .plan2 .given .1))
+    let a = c .before .before .before .before .before .before .before .before .before .before .before .before .before .before .before .before .args in
+    let w = rw (part-to-end (a .kwnames .now) 0) at (c .before .before .before .before .before .commit .ensures) in
+    rw (w .count, w .bytes, w .rows) (emitted (a .core) (a .location) (a .opcode) (a .name) (a .operand) (a .kwnames .now) (a .code .now) (a .locations .now) (Go _ _ _) (sym (c .before .before .before .before .before .before .before .before .before .before .before .before .decide .ensures) ∙ c .before .before .before .before .before .before .before .before .before .before .plan2 .given .1))
 
 pub emit-core-spec : {M : Type 1} → statement M
 emit-core-spec =
@@ -49,7 +65,11 @@ emit-core-spec =
     enum-told
     enum-known-plan
     enum-known-plan-2
+    sub-commit
+    part-commit-start
+    part-commit-end
     commit-requires
+    add-t19
     returns
     returns-2
     same-length

@@ -6,6 +6,9 @@ use mathlib.Core.Path.{ap}
 use Rattle.builder.proofs.emitting.emit_with_operand.Statement.{statement}
 use Rattle.builder.proofs.emitting.emit_with_operand.Tie as tie
 
+slice-aggregate-emit-core : tie.Need-slice-aggregate-emit-core
+slice-aggregate-emit-core c = search needs
+
 emit-core-requires : tie.Need-emit-core-requires
 emit-core-requires c κs = search needs
 
@@ -24,4 +27,11 @@ returns c = rw (c .answer-by .ensures) (ap (outcomeBy (c .before .before .before
 
 pub emit-with-operand-spec : {M : Type 1} → statement M
 emit-with-operand-spec =
-    tie.close (tie.spec emit-core-requires answer-by-requires same-length same-length-2 returns)
+    tie.close
+    (tie.spec
+    slice-aggregate-emit-core
+    emit-core-requires
+    answer-by-requires
+    same-length
+    same-length-2
+    returns)

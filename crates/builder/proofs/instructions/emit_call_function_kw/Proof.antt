@@ -7,8 +7,8 @@ use Rattle.builder.proofs.instructions.emit_call_function_kw.Tie as tie
 count-byte-requires : tie.Need-count-byte-requires
 count-byte-requires c κs = search needs
 
-emit-with-operand-requires : tie.Need-emit-with-operand-requires
-emit-with-operand-requires c κs = search needs
+emit-with-names-requires : tie.Need-emit-with-names-requires
+emit-with-names-requires c κs = search needs
 
 same-length : tie.Need-same-length
 same-length c = search needs
@@ -17,9 +17,9 @@ same-length-2 : tie.Need-same-length-2
 same-length-2 c = search needs
 
 returns : tie.Need-returns
-returns c = rw (c .before .before .before .before .before .before .before .count-byte .ensures) at (c .before .before .before .before .emit-with-operand .ensures)
+returns c = rw (c .before .before .before .before .before .before .before .count-byte .ensures) at (c .before .before .before .before .emit-with-names .ensures)
 
 pub emit-call-function-kw-spec : {M : Type 1} → statement M
 emit-call-function-kw-spec =
     tie.close
-    (tie.spec count-byte-requires emit-with-operand-requires same-length same-length-2 returns)
+    (tie.spec count-byte-requires emit-with-names-requires same-length same-length-2 returns)

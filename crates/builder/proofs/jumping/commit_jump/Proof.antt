@@ -38,8 +38,11 @@ cast-row4 c = search needs
 row4-requires : tie.Need-row4-requires
 row4-requires c κs = search needs
 
-add-t24 : tie.Need-add-t24
-add-t24 c = omega (arith, c .before .before .before .before .before .before .before .before .before .before .before .before .before .before .before .pre .mark, c .before .before .before .before .before .before .before .before .before .before .before .before .before .before .before .good)
+add-t23 : tie.Need-add-t23
+add-t23 c = search needs
+
+add-t25 : tie.Need-add-t25
+add-t25 c = search needs
 
 same-length : tie.Need-same-length
 same-length c = search needs
@@ -56,7 +59,7 @@ returns c =
     let w = c .before .before .before .before .before .before .before .before .commit .ensures in
     let h : a .core .marks * markCells + 4 ≤ length (a .marks .now) = omega (arith, c .before .before .before .before .before .before .before .before .before .before .before .before .before .before .before .pre .mark) in
     record {
-      state = rw (w .state) refl;
+      state = rw (w .count) refl;
       bytes = w .bytes;
       rows = w .rows;
       mark = rw (c .before .before .row4 .ensures) (put-lent (a .core .marks * markCells) (markRow openKind (a .core .code) (a .t)) (a .marks .now) h);
@@ -75,7 +78,8 @@ commit-jump-spec =
     part-row4-end
     cast-row4
     row4-requires
-    add-t24
+    add-t23
+    add-t25
     same-length
     same-length-2
     same-length-3

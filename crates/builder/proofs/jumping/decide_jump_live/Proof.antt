@@ -1,5 +1,7 @@
 -- `builder::jumping::decide_jump_live` meets its contract: the taken depth is op's, the rest as any emission.
 -- Assumes nothing.
+use Rattle.builder.proofs.Plans.{live-from}
+use Rattle.builder.specs.Jumps.{unpatched}
 use borrow.Author.Needs.{needs}
 use mathlib.Core.Path.{_∙_, sym}
 use Rattle.builder.proofs.jumping.decide_jump_live.Statement.{statement}
@@ -14,17 +16,23 @@ enum-known-taken c = search needs
 enum-known-taken-2 : tie.Need-enum-known-taken-2
 enum-known-taken-2 c = search needs
 
-decide-live-requires : tie.Need-decide-live-requires
-decide-live-requires c κs = search needs
+decide-bytes-requires : tie.Need-decide-bytes-requires
+decide-bytes-requires c κs = search needs
 
-also-mark-requires : tie.Need-also-mark-requires
-also-mark-requires c κs = search needs
+also-location-requires : tie.Need-also-location-requires
+also-location-requires c κs = search needs
+
+also-row-requires : tie.Need-also-row-requires
+also-row-requires c κs = search needs
 
 returns : tie.Need-returns
 returns c = simp (sym (c .before .before .before .taken .ensures) ∙ c .before .taken2 .given .1)
 
 returns-2 : tie.Need-returns-2
-returns-2 c = simp (sym (c .before .before .before .before .before .taken .ensures) ∙ c .before .before .before .taken3 .given .1) (rw (c .before .decide-live .ensures) at (c .also-mark .ensures))
+returns-2 c =
+    let a = c .before .before .before .before .before .before .before .before .args in
+    let live = live-from (a .core) (a .location) (a .cl) (a .ll) (a .d) (a .opcode) unpatched 0 _ _ _ (c .before .before .before .decide-bytes .ensures) (c .before .before .also-location .ensures) in
+    simp (sym (c .before .before .before .before .before .before .before .taken .ensures) ∙ c .before .before .before .before .before .taken3 .given .1) (rw live at (c .also-row .ensures))
 
 pub decide-jump-live-spec : {M : Type 1} → statement M
 decide-jump-live-spec =
@@ -33,7 +41,8 @@ decide-jump-live-spec =
     taken-requires
     enum-known-taken
     enum-known-taken-2
-    decide-live-requires
-    also-mark-requires
+    decide-bytes-requires
+    also-location-requires
+    also-row-requires
     returns
     returns-2)

@@ -1,10 +1,9 @@
--- `builder::jumping::also_mark` meets its contract: an arm for each variant, and the definition's test.
+-- `builder::deciding::also_row` meets its contract: an arm for each variant, and the definition's test.
 -- Assumes nothing.
 use borrow.Author.Needs.{needs}
-use borrow.Author.Tests.{le-ltb, lt-ltb}
 use mathlib.Core.Path.{refl}
-use Rattle.builder.proofs.jumping.also_mark.Statement.{statement}
-use Rattle.builder.proofs.jumping.also_mark.Tie as tie
+use Rattle.builder.proofs.deciding.also_row.Statement.{statement}
+use Rattle.builder.proofs.deciding.also_row.Tie as tie
 
 enum-told : tie.Need-enum-told
 enum-told c = search needs
@@ -16,7 +15,7 @@ enum-known-plan-2 : tie.Need-enum-known-plan-2
 enum-known-plan-2 c = search needs
 
 returns : tie.Need-returns
-returns c = rw (c .before .before .plan2 .given .1, lt-ltb _ _ (c .if1 .taken)) refl
+returns c = rw (c .before .before .plan2 .given .1, c .if1 .taken) refl
 
 returns-2 : tie.Need-returns-2
 returns-2 c = search needs
@@ -25,9 +24,9 @@ returns-3 : tie.Need-returns-3
 returns-3 c = rw (c .before .plan .given .1) refl
 
 returns-4 : tie.Need-returns-4
-returns-4 c = rw (c .before .before .plan2 .given .1, le-ltb _ _ (c .if1 .left)) refl
+returns-4 c = rw (c .before .before .plan2 .given .1, c .if1 .left) refl
 
-pub also-mark-spec : {M : Type 1} → statement M
-also-mark-spec =
+pub also-row-spec : {M : Type 1} → statement M
+also-row-spec =
     tie.close
     (tie.spec enum-told enum-known-plan enum-known-plan-2 returns returns-2 returns-3 returns-4)
