@@ -9,7 +9,14 @@ pub struct Args {
     // whether one of them was `dead` in place of a row
     pub dead: bool,
     pub next: Cursor,
-    pub values: [u64; 13],
+    // in order; 0 where a call has fewer
+    pub x0: u64,
+    pub x1: u64,
+    pub x2: u64,
+    pub x3: u64,
+    pub x4: u64,
+    pub x5: u64,
+    pub x6: u64,
 }
 
 // Which entry a line names, and its arguments.
@@ -95,20 +102,30 @@ fn argument(line: &[u8], c: Cursor, letter: u8) -> Item {
     }
 }
 
+fn taken(good: bool, dead: bool, next: Cursor, v: [u64; 7]) -> Args {
+    Args {
+        good,
+        dead,
+        next,
+        x0: v[0],
+        x1: v[1],
+        x2: v[2],
+        x3: v[3],
+        x4: v[4],
+        x5: v[5],
+        x6: v[6],
+    }
+}
+
 // The words from a cursor on, one for each letter.
 pub fn arguments(line: &[u8], first: Cursor, letters: &[u8]) -> Args {
-    let mut values = [0u64; 13];
+    let mut values = [0u64; 7];
     let mut next = first;
     let mut dead = false;
     let mut i: usize = 0;
     while i < letters.len() {
-        if 12 < i {
-            return Args {
-                good: false,
-                dead,
-                next,
-                values,
-            };
+        if 6 < i {
+            return taken(false, dead, next, values);
         }
         let v = argument(line, next, letters[i]);
         values[i] = v.number;
@@ -116,12 +133,7 @@ pub fn arguments(line: &[u8], first: Cursor, letters: &[u8]) -> Args {
         next = v.next;
         i += 1;
     }
-    Args {
-        good: cursor::done(line, next),
-        dead,
-        next,
-        values,
-    }
+    taken(cursor::done(line, next), dead, next, values)
 }
 
 // The words from a cursor on, by the letters of an entry.

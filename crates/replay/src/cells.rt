@@ -2,16 +2,6 @@
 use crate::output;
 use crate::tables;
 
-pub fn put8(t: &[u8], out: &mut [u8], at: usize) -> usize {
-    let mut o = at;
-    let mut i: usize = 0;
-    while i < t.len() {
-        o = output::number(out, o, tables::wide8(t[i]));
-        i += 1;
-    }
-    o
-}
-
 pub fn put32(t: &[u32], out: &mut [u8], at: usize) -> usize {
     let mut o = at;
     let mut i: usize = 0;
@@ -30,4 +20,14 @@ pub fn put64(t: &[u64], out: &mut [u8], at: usize) -> usize {
         i += 1;
     }
     o
+}
+
+pub fn first32(t: &[u32], n: usize, out: &mut [u8], at: usize) -> usize {
+    let to = tables::least(n, t.len());
+    put32(&t[0..to], out, at)
+}
+
+pub fn first64(t: &[u64], n: usize, out: &mut [u8], at: usize) -> usize {
+    let to = tables::least(n, t.len());
+    put64(&t[0..to], out, at)
 }

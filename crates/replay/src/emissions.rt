@@ -3,8 +3,8 @@ use crate::args;
 use crate::args::Args;
 use crate::kept;
 use crate::kept::Kept;
+use crate::kept::Turn;
 use crate::lists;
-use crate::reply::Reply;
 use crate::tables;
 use builder::Answer;
 use builder::Builder;
@@ -12,63 +12,76 @@ use builder::emission;
 use builder::instructions;
 use code::signs;
 
-// By the shape of the operand.
+// By the shape of the operand: bytes x, y and z, words v and w. (Plain numbers, as a struct of the arguments makes each arm dearer to
+// prove.)
 fn shaped(
     k: u64,
-    line: &[u8],
     b: Builder,
-    a: Args,
+    opcode: u8,
+    x: u8,
+    y: u8,
+    z: u8,
+    v: u16,
+    w: u16,
     code: &mut [u8],
     locations: &mut [u32],
 ) -> Answer {
-    let v = a.values;
-    let opcode = args::low8(v[0]);
-    let x = args::low8(v[1]);
-    let y = args::low8(v[2]);
-    let w = args::low16(v[1]);
     match k {
         0 => emission::emit(b, opcode, code, locations),
         1 => emission::emit_u8(b, opcode, x, code, locations),
         2 => emission::emit_i8(b, opcode, signs::to_i8(x), code, locations),
         3 => emission::emit_u8_u8(b, opcode, x, y, code, locations),
-        4 => emission::emit_u16(b, opcode, w, code, locations),
-        5 => emission::emit_u16_u16(b, opcode, w, args::low16(v[2]), code, locations),
-        6 => emission::emit_u16_u8(b, opcode, w, y, code, locations),
-        7 => emission::emit_u16_u8_u8(b, opcode, w, y, args::low8(v[3]), code, locations),
-        _ => chosen(k, line, b, a, code, locations),
+        4 => emission::emit_u16(b, opcode, v, code, locations),
+        5 => emission::emit_u16_u16(b, opcode, v, w, code, locations),
+        6 => emission::emit_u16_u8(b, opcode, v, y, code, locations),
+        _ => emission::emit_u16_u8_u8(b, opcode, v, y, z, code, locations),
     }
 }
 
 // Those that choose their opcode or hold a name.
 fn chosen(
     k: u64,
-    line: &[u8],
     b: Builder,
-    a: Args,
+    x: u8,
+    y: u8,
+    slot: u16,
+    name: u32,
     code: &mut [u8],
     locations: &mut [u32],
 ) -> Answer {
-    let v = a.values;
-    let x = args::low8(v[0]);
-    let y = args::low8(v[1]);
-    let slot = args::low16(v[0]);
     match k {
         8 => instructions::emit_call_builtin_function(b, x, y, code, locations),
         9 => instructions::emit_call_builtin_type(b, x, y, code, locations),
-        10 => instructions::emit_raise_unbound_local(b, args::low32(v[0]), code, locations),
+        10 => instructions::emit_raise_unbound_local(b, name, code, locations),
         11 => instructions::emit_load_local(b, slot, code, locations),
         12 => instructions::emit_store_local(b, slot, code, locations),
-        13 => instructions::emit_load_global_callable(b, slot, args::low32(v[1]), code, locations),
-        14 => instructions::emit_name_op(
-            b,
-            x,
-            args::low16(v[1]),
-            args::low32(v[2]),
-            args::low8(v[3]),
-            code,
-            locations,
-        ),
-        _ => keyword(k, line, b, a, code, locations),
+        13 => instructions::emit_load_global_callable(b, slot, name, code, locations),
+        _ => instructions::emit_name_op(b, x, slot, name, y, code, locations),
+    }
+}
+
+// The second byte of a call that chooses its opcode.
+fn byte_of(k: u64, a: Args) -> u8 {
+    if k == 14 {
+        return args::low8(a.x3);
+    }
+    args::low8(a.x1)
+}
+
+// Its slot.
+fn slot_of(k: u64, a: Args) -> u16 {
+    if k == 14 {
+        return args::low16(a.x1);
+    }
+    args::low16(a.x0)
+}
+
+// Its name.
+fn name_of(k: u64, a: Args) -> u32 {
+    match k {
+        10 => args::low32(a.x0),
+        13 => args::low32(a.x1),
+        _ => args::low32(a.x2),
     }
 }
 
@@ -81,21 +94,16 @@ fn named_call(
     code: &mut [u8],
     locations: &mut [u32],
 ) -> Answer {
-    let v = a.values;
     let n = tables::least(size, kwnames.len());
+    let names = &kwnames[0..n];
+    let x = args::low8(a.x0);
     match k {
-        15 => instructions::emit_call_function_kw(
-            b,
-            args::low8(v[0]),
-            &kwnames[0..n],
-            code,
-            locations,
-        ),
+        15 => instructions::emit_call_function_kw(b, x, names, code, locations),
         _ => instructions::emit_call_attr_kw(
             b,
-            args::low16(v[0]),
-            args::low8(v[1]),
-            &kwnames[0..n],
+            args::low16(a.x0),
+            args::low8(a.x1),
+            names,
             code,
             locations,
         ),
@@ -117,6 +125,41 @@ fn keyword(
     named_call(k, b, a, &kwnames, size, code, locations)
 }
 
+fn emitted(
+    k: u64,
+    line: &[u8],
+    b: Builder,
+    a: Args,
+    code: &mut [u8],
+    locations: &mut [u32],
+) -> Answer {
+    match k {
+        0..=7 => shaped(
+            k,
+            b,
+            args::low8(a.x0),
+            args::low8(a.x1),
+            args::low8(a.x2),
+            args::low8(a.x3),
+            args::low16(a.x1),
+            args::low16(a.x2),
+            code,
+            locations,
+        ),
+        8..=14 => chosen(
+            k,
+            b,
+            args::low8(a.x0),
+            byte_of(k, a),
+            slot_of(k, a),
+            name_of(k, a),
+            code,
+            locations,
+        ),
+        _ => keyword(k, line, b, a, code, locations),
+    }
+}
+
 // Whether the words behind the name are what the call takes.
 pub fn is_good(k: u64, line: &[u8], a: Args) -> bool {
     if k <= 14 {
@@ -126,10 +169,11 @@ pub fn is_good(k: u64, line: &[u8], a: Args) -> bool {
     lists::is_list(line, next, 65535)
 }
 
-pub fn run(k: u64, line: &[u8], a: Args, s: &mut Kept, code: &mut [u8], rows: &mut [u32]) -> Reply {
-    let n = tables::least(s[kept::CODE] as usize, code.len());
-    let l = tables::least(s[kept::LOCATIONS] as usize, rows.len());
-    let b = kept::builder_of(s);
-    let answer = shaped(k, line, b, a, &mut code[0..n], &mut rows[0..l]);
+pub fn run(k: u64, line: &[u8], a: Args, s: Kept, code: &mut [u8], rows: &mut [u32]) -> Turn {
+    let lent = s.lent;
+    let b = s.builder;
+    let n = tables::least(lent.code, code.len());
+    let l = tables::least(lent.locations, rows.len());
+    let answer = emitted(k, line, b, a, &mut code[0..n], &mut rows[0..l]);
     kept::settled(answer, s)
 }

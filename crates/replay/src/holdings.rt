@@ -1,11 +1,11 @@
-// The calls on names, constants, exceptions and starts.
+// The calls on names and constants, and those on exceptions and starts.
 use crate::args;
 use crate::args::Args;
 use crate::cursor::Cursor;
 use crate::kept;
 use crate::kept::Kept;
+use crate::kept::Turn;
 use crate::lists;
-use crate::reply::Reply;
 use crate::tables;
 use crate::turns;
 use builder::Answer;
@@ -22,100 +22,105 @@ pub fn kind_of(k: u64) -> HandlerKind {
     HandlerKind::Cleanup
 }
 
-fn register_local_name(slot: u16, name: u32, s: &mut Kept, cells: &mut [u64]) -> Reply {
-    let p = tables::part(tables::NAMES, s[kept::NAMES] as usize, cells.len());
-    let from = p.from;
-    let to = p.to;
-    let b = kept::builder_of(s);
-    let answer = names::register_local_name(b, slot, name, &mut cells[from..to]);
-    kept::settled(answer, s)
-}
-
 fn all_names(b: Builder, given: &[u32], size: usize, table: &mut [u64]) -> Answer {
     let n = tables::least(size, given.len());
     names::register_local_names(b, &given[0..n], table)
 }
 
-fn register_local_names(line: &[u8], c: Cursor, s: &mut Kept, cells: &mut [u64]) -> Reply {
+fn register_local_names(b: Builder, line: &[u8], c: Cursor, table: &mut [u64]) -> Answer {
     let mut given = [0u32; 300];
     let l = lists::list32(line, c, &mut given);
-    let p = tables::part(tables::NAMES, s[kept::NAMES] as usize, cells.len());
-    let from = p.from;
-    let to = p.to;
-    let b = kept::builder_of(s);
-    let answer = all_names(b, &given, l.size, &mut cells[from..to]);
-    kept::settled(answer, s)
+    all_names(b, &given, l.size, table)
 }
 
-fn build(count: u32, s: &mut Kept, cells: &mut [u64], marks: &[u32]) -> Reply {
-    let m = tables::least(s[kept::MARKS] as usize, marks.len());
-    let p = tables::part(tables::NAMES, s[kept::NAMES] as usize, cells.len());
-    let from = p.from;
-    let to = p.to;
-    let b = kept::builder_of(s);
-    let answer = names::build(b, count, &mut cells[from..to], &marks[0..m]);
-    kept::settled(answer, s)
-}
-
-fn add_const(value: u64, s: &mut Kept, cells: &mut [u64]) -> Reply {
-    let p = tables::part(tables::CONSTANTS, s[kept::CONSTANTS] as usize, cells.len());
-    let from = p.from;
-    let to = p.to;
-    let b = kept::builder_of(s);
-    let answer = entries::add_const(b, value, &mut cells[from..to]);
-    turns::added(answer, s)
-}
-
-fn add_exception_entry(v: [u64; 13], s: &mut Kept, rows: &mut [u32]) -> Reply {
-    let p = tables::part(tables::EXCEPTIONS, s[kept::EXCEPTIONS] as usize, rows.len());
-    let from = p.from;
-    let to = p.to;
-    let b = kept::builder_of(s);
-    let answer = entries::add_exception_entry(
-        b,
-        v[0] as usize,
-        v[1] as usize,
-        v[2] as usize,
-        args::low16(v[3]),
-        args::low16(v[4]),
-        kind_of(v[5]),
-        &mut rows[from..to],
-    );
-    kept::settled(answer, s)
-}
-
-fn new_code_region(depth: u16, s: &mut Kept, rows: &mut [u32]) -> Reply {
-    let p = tables::part(tables::STARTS, s[kept::STARTS] as usize, rows.len());
-    let from = p.from;
-    let to = p.to;
-    let b = kept::builder_of(s);
-    let answer = regions::new_code_region(b, depth, &mut rows[from..to]);
-    kept::settled(answer, s)
-}
-
-pub fn run(
-    k: u64,
-    line: &[u8],
-    a: Args,
-    s: &mut Kept,
-    rows: &mut [u32],
-    cells: &mut [u64],
-    marks: &[u32],
-) -> Reply {
-    let v = a.values;
+fn in_cells(k: u64, line: &[u8], a: Args, s: Kept, table: &mut [u64], marks: &[u32]) -> Turn {
+    let b = s.builder;
     let c = a.next;
-    let x = args::low16(v[0]);
     match k {
-        0 => register_local_name(x, args::low32(v[1]), s, cells),
-        1 => register_local_names(line, c, s, cells),
-        2 => build(args::low32(v[0]), s, cells, marks),
-        3 => add_exception_entry(v, s, rows),
-        4 => new_code_region(x, s, rows),
-        _ => add_const(v[0], s, cells),
+        0 => {
+            let slot = args::low16(a.x0);
+            kept::settled(
+                names::register_local_name(b, slot, args::low32(a.x1), table),
+                s,
+            )
+        }
+        1 => kept::settled(register_local_names(b, line, c, table), s),
+        2 => kept::settled(names::build(b, args::low32(a.x0), table, marks), s),
+        _ => turns::added(entries::add_const(b, a.x0, table), s),
     }
 }
 
-// Whether the words behind the name are what the call takes.
+// Where the table of a call on names or constants begins, and how many cells of it are lent.
+fn cells_base(k: u64) -> usize {
+    if k == 3 {
+        return tables::CONSTANTS;
+    }
+    tables::NAMES
+}
+
+fn cells_lent(k: u64, s: Kept) -> usize {
+    let lent = s.lent;
+    if k == 3 {
+        return lent.constants;
+    }
+    lent.names
+}
+
+pub fn run_cells(k: u64, line: &[u8], a: Args, s: Kept, cells: &mut [u64], marks: &[u32]) -> Turn {
+    let lent = s.lent;
+    let m = tables::least(lent.marks, marks.len());
+    let p = tables::part(cells_base(k), cells_lent(k, s), cells.len());
+    let from = p.from;
+    let to = p.to;
+    in_cells(k, line, a, s, &mut cells[from..to], &marks[0..m])
+}
+
+fn add_exception_entry(b: Builder, a: Args, table: &mut [u32]) -> Answer {
+    entries::add_exception_entry(
+        b,
+        a.x0 as usize,
+        a.x1 as usize,
+        a.x2 as usize,
+        args::low16(a.x3),
+        args::low16(a.x4),
+        kind_of(a.x5),
+        table,
+    )
+}
+
+fn in_rows(k: u64, b: Builder, a: Args, table: &mut [u32]) -> Answer {
+    match k {
+        0 => add_exception_entry(b, a, table),
+        _ => regions::new_code_region(b, args::low16(a.x0), table),
+    }
+}
+
+// The same of a call on exceptions or starts.
+fn rows_base(k: u64) -> usize {
+    if k == 0 {
+        return tables::EXCEPTIONS;
+    }
+    tables::STARTS
+}
+
+fn rows_lent(k: u64, s: Kept) -> usize {
+    let lent = s.lent;
+    if k == 0 {
+        return lent.exceptions;
+    }
+    lent.starts
+}
+
+pub fn run_rows(k: u64, a: Args, s: Kept, rows: &mut [u32]) -> Turn {
+    let b = s.builder;
+    let p = tables::part(rows_base(k), rows_lent(k, s), rows.len());
+    let from = p.from;
+    let to = p.to;
+    let answer = in_rows(k, b, a, &mut rows[from..to]);
+    kept::settled(answer, s)
+}
+
+// Whether the words behind the name of a call on names or constants are what it takes.
 pub fn is_good(k: u64, line: &[u8], a: Args) -> bool {
     if k == 1 {
         let next = a.next;

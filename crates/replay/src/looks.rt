@@ -5,13 +5,18 @@ use crate::cells;
 use crate::cursor;
 use crate::cursor::Cursor;
 use crate::cursor::Value;
-use crate::kept;
 use crate::kept::Kept;
+use crate::kept::Lent;
 use crate::output;
 use crate::reply;
 use crate::reply::Reply;
 use crate::states;
 use crate::tables;
+use crate::tables::Cells;
+use crate::tables::Code;
+use crate::tables::Marks;
+use crate::tables::Out;
+use crate::tables::Rows;
 use builder::EXCEPTION_CELLS;
 use builder::LOCATION_CELLS;
 use code::Constant;
@@ -32,11 +37,16 @@ fn table(line: &[u8], c: Cursor) -> Value {
 }
 
 // How many cells of it are lent.
-fn length_of(k: u64, s: &Kept) -> usize {
-    if 6 < k {
-        return 0;
+fn length_of(k: u64, lent: Lent) -> usize {
+    match k {
+        0 => lent.code,
+        1 => lent.locations,
+        2 => lent.exceptions,
+        3 => lent.constants,
+        4 => lent.names,
+        5 => lent.marks,
+        _ => lent.starts,
     }
-    s[kept::CODE + k as usize] as usize
 }
 
 // Where a table begins in its array.
@@ -51,44 +61,64 @@ fn base(k: u64) -> usize {
     }
 }
 
-fn sum8(t: &[u8], n: usize) -> u64 {
-    let to = tables::least(n, t.len());
-    tables::sum8(&t[0..to])
+fn cell8(t: &[u8], i: usize) -> u64 {
+    if i < t.len() {
+        return tables::wide8(t[i]);
+    }
+    0
 }
 
-fn sum32(t: &[u32], base: usize, n: usize) -> u64 {
-    let p = tables::part(base, n, t.len());
-    let from = p.from;
-    let to = p.to;
-    tables::sum32(&t[from..to])
+fn cell32(t: &[u32], i: usize) -> u64 {
+    if i < t.len() {
+        return tables::wide32(t[i]);
+    }
+    0
 }
 
-fn sum64(t: &[u64], base: usize, n: usize) -> u64 {
-    let p = tables::part(base, n, t.len());
-    let from = p.from;
-    let to = p.to;
-    tables::sum64(&t[from..to])
+fn cell64(t: &[u64], i: usize) -> u64 {
+    if i < t.len() {
+        return t[i];
+    }
+    0
 }
 
-fn sum_of(k: u64, n: usize, code: &[u8], rows: &[u32], cells: &[u64], marks: &[u32]) -> u64 {
+// The cell at a place of the array of a table; 0 where there is none.
+fn cell(k: u64, i: usize, code: &Code, rows: &Rows, cells: &Cells, marks: &Marks) -> u64 {
     match k {
-        0 => sum8(code, n),
-        3 => sum64(cells, base(3), n),
-        4 => sum64(cells, base(4), n),
-        5 => sum32(marks, 0, n),
-        _ => sum32(rows, base(k), n),
+        0 => cell8(code, i),
+        3 | 4 => cell64(cells, i),
+        5 => cell32(marks, i),
+        _ => cell32(rows, i),
     }
 }
 
+fn sum_of(
+    k: u64,
+    from: usize,
+    to: usize,
+    code: &Code,
+    rows: &Rows,
+    cells: &Cells,
+    marks: &Marks,
+) -> u64 {
+    let mut h: u64 = 0;
+    let mut i = from;
+    while i < to {
+        h = tables::folded(h, cell(k, i, code, rows, cells, marks));
+        i += 1;
+    }
+    h
+}
+
 // `sum TABLE`.
-fn sum(
+pub fn sum(
     line: &[u8],
     a: Args,
-    s: &Kept,
-    code: &[u8],
-    rows: &[u32],
-    cells: &[u64],
-    marks: &[u32],
+    lent: Lent,
+    code: &Code,
+    rows: &Rows,
+    cells: &Cells,
+    marks: &Marks,
 ) -> Reply {
     let first = a.next;
     let t = table(line, first);
@@ -96,8 +126,10 @@ fn sum(
     if !cursor::done(line, next) {
         return Reply::Bad;
     }
-    let n = length_of(t.number, s);
-    Reply::One(sum_of(t.number, n, code, rows, cells, marks))
+    let k = t.number;
+    let from = base(k);
+    let to = std::num::wrapping_add_usize(from, length_of(k, lent));
+    Reply::One(sum_of(k, from, to, code, rows, cells, marks))
 }
 
 fn poke8(t: &mut [u8], at: usize, x: u64) -> Reply {
@@ -134,61 +166,47 @@ fn store(
     k: u64,
     at: usize,
     x: u64,
-    code: &mut [u8],
-    rows: &mut [u32],
-    cells: &mut [u64],
-    marks: &mut [u32],
+    code: &mut Code,
+    rows: &mut Rows,
+    cells: &mut Cells,
+    marks: &mut Marks,
 ) -> Reply {
     match k {
         0 => poke8(code, at, x),
-        3 => poke64(cells, at, x),
-        4 => poke64(cells, at, x),
+        3 | 4 => poke64(cells, at, x),
         5 => poke32(marks, at, x),
         _ => poke32(rows, at, x),
     }
 }
 
 // `poke TABLE INDEX VALUE`.
-fn poke(
+pub fn poke(
     line: &[u8],
     a: Args,
-    s: &Kept,
-    code: &mut [u8],
-    rows: &mut [u32],
-    cells: &mut [u64],
-    marks: &mut [u32],
+    lent: Lent,
+    code: &mut Code,
+    rows: &mut Rows,
+    cells: &mut Cells,
+    marks: &mut Marks,
 ) -> Reply {
     let first = a.next;
     let t = table(line, first);
     let next = t.next;
-    let rest = args::arguments(line, next, b"dd");
-    if !rest.good {
+    let k = t.number;
+    let v = args::arguments(line, next, b"dd");
+    let i = v.x0 as usize;
+    if !is_cell(v.good, i, length_of(k, lent)) {
         return Reply::Bad;
     }
-    let v = rest.values;
-    let i = v[0] as usize;
-    if length_of(t.number, s) <= i {
-        return Reply::Bad;
-    }
-    let at = std::num::wrapping_add_usize(base(t.number), i);
-    store(t.number, at, v[1], code, rows, cells, marks)
+    let at = std::num::wrapping_add_usize(base(k), i);
+    store(k, at, v.x1, code, rows, cells, marks)
 }
 
-// Those on a table that the line names.
-pub fn touch(
-    k: u64,
-    line: &[u8],
-    a: Args,
-    s: &Kept,
-    code: &mut [u8],
-    rows: &mut [u32],
-    cells: &mut [u64],
-    marks: &mut [u32],
-) -> Reply {
-    if k == 0 {
-        return sum(line, a, s, code, rows, cells, marks);
+fn is_cell(good: bool, i: usize, size: usize) -> bool {
+    if good {
+        return i < size;
     }
-    poke(line, a, s, code, rows, cells, marks)
+    false
 }
 
 fn location_reply(row: usize, r: LocationRow) -> Reply {
@@ -284,125 +302,41 @@ fn local_name(slot: u64, used: usize, lent: usize, cells: &[u64]) -> Reply {
 }
 
 // The lookups, and the calls that are lent no table.
-pub fn run(k: u64, a: Args, s: &Kept, rows: &[u32], cells: &[u64]) -> Reply {
+pub fn run(k: u64, a: Args, s: Kept, rows: &Rows, cells: &Cells) -> Reply {
     if !a.good {
         return Reply::Bad;
     }
-    let v = a.values;
-    let x = v[0];
+    let b = s.builder;
+    let lent = s.lent;
+    let core = b.core;
+    let x = a.x0;
     match k {
-        0 => location_for_offset(
-            x,
-            s[kept::USED_LOCATIONS] as usize,
-            s[kept::LOCATIONS] as usize,
-            rows,
-        ),
-        1 => find_exception_handler(
-            x,
-            s[kept::USED_EXCEPTIONS] as usize,
-            s[kept::EXCEPTIONS] as usize,
-            rows,
-        ),
-        2 => constant(
-            x,
-            s[kept::USED_CONSTANTS] as usize,
-            s[kept::CONSTANTS] as usize,
-            cells,
-        ),
-        3 => local_name(
-            x,
-            s[kept::USED_NAMES] as usize,
-            s[kept::NAMES] as usize,
-            cells,
-        ),
-        _ => states::query(k, s),
+        0 => location_for_offset(x, core.locations, lent.locations, rows),
+        1 => find_exception_handler(x, b.exceptions, lent.exceptions, rows),
+        2 => constant(x, b.constants, lent.constants, cells),
+        3 => local_name(x, b.names, lent.names, cells),
+        _ => states::query(k, b),
     }
 }
 
-fn put8(t: &[u8], from: usize, n: usize, out: &mut [u8], at: usize) -> usize {
-    let p = tables::part(from, n, t.len());
-    let a = p.from;
-    let e = p.to;
-    cells::put8(&t[a..e], out, at)
-}
-
-fn put32(t: &[u32], from: usize, n: usize, out: &mut [u8], at: usize) -> usize {
-    let p = tables::part(from, n, t.len());
-    let a = p.from;
-    let e = p.to;
-    cells::put32(&t[a..e], out, at)
-}
-
-fn put64(t: &[u64], from: usize, n: usize, out: &mut [u8], at: usize) -> usize {
-    let p = tables::part(from, n, t.len());
-    let a = p.from;
-    let e = p.to;
-    cells::put64(&t[a..e], out, at)
-}
-
-// So many cells of a table from a place of its array on.
 fn put_cells(
     k: u64,
     from: usize,
-    n: usize,
-    code: &[u8],
-    rows: &[u32],
-    cells: &[u64],
-    marks: &[u32],
-    out: &mut [u8],
+    to: usize,
+    code: &Code,
+    rows: &Rows,
+    cells: &Cells,
+    marks: &Marks,
+    out: &mut Out,
     at: usize,
 ) -> usize {
-    match k {
-        0 => put8(code, from, n, out, at),
-        3 => put64(cells, from, n, out, at),
-        4 => put64(cells, from, n, out, at),
-        5 => put32(marks, from, n, out, at),
-        _ => put32(rows, from, n, out, at),
+    let mut o = at;
+    let mut i = from;
+    while i < to {
+        o = output::number(out, o, cell(k, i, code, rows, cells, marks));
+        i += 1;
     }
-}
-
-fn cells_line(
-    k: u64,
-    from: usize,
-    n: usize,
-    code: &[u8],
-    rows: &[u32],
-    cells: &[u64],
-    marks: &[u32],
-    out: &mut [u8],
-    at: usize,
-) -> usize {
-    let o = output::text(out, at, b"ok");
-    let e = put_cells(k, from, n, code, rows, cells, marks, out, o);
-    output::ended(out, e)
-}
-
-// `cells TABLE FROM TO`.
-pub fn run_cells(
-    line: &[u8],
-    a: Args,
-    s: &Kept,
-    number: u64,
-    code: &[u8],
-    rows: &[u32],
-    cells: &[u64],
-    marks: &[u32],
-    out: &mut [u8],
-    at: usize,
-) -> usize {
-    let first = a.next;
-    let t = table(line, first);
-    let next = t.next;
-    let rest = args::arguments(line, next, b"dd");
-    let v = rest.values;
-    let from = v[0] as usize;
-    let to = v[1] as usize;
-    if !is_part(rest.good, from, to, length_of(t.number, s)) {
-        return reply::unknown(out, at, number);
-    }
-    let n = std::num::wrapping_sub_usize(to, from);
-    let start = std::num::wrapping_add_usize(base(t.number), from);
-    cells_line(t.number, start, n, code, rows, cells, marks, out, at)
+    o
 }
 
 // Whether at most 512 cells are asked for, and all of them are lent.
@@ -417,4 +351,34 @@ fn is_part(good: bool, from: usize, to: usize, size: usize) -> bool {
         return false;
     }
     to <= size
+}
+
+// `cells TABLE FROM TO`.
+pub fn show(
+    line: &[u8],
+    a: Args,
+    lent: Lent,
+    number: u64,
+    code: &Code,
+    rows: &Rows,
+    cells: &Cells,
+    marks: &Marks,
+    out: &mut Out,
+    at: usize,
+) -> usize {
+    let first = a.next;
+    let t = table(line, first);
+    let next = t.next;
+    let k = t.number;
+    let v = args::arguments(line, next, b"dd");
+    let from = v.x0 as usize;
+    let to = v.x1 as usize;
+    if !is_part(v.good, from, to, length_of(k, lent)) {
+        return reply::say(Reply::Bad, number, out, at);
+    }
+    let start = std::num::wrapping_add_usize(base(k), from);
+    let end = std::num::wrapping_add_usize(base(k), to);
+    let o = output::text(out, at, b"ok");
+    let e = put_cells(k, start, end, code, rows, cells, marks, out, o);
+    output::ended(out, e)
 }

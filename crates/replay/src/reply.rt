@@ -1,11 +1,13 @@
 // Answers, as values and as lines of text.
+use crate::cells;
 use crate::cursor;
 use crate::output;
+use crate::tables::Out;
 use op::Refusal;
 use op::Table;
 use op::refusals;
 
-// Words of answers, by their places in `ok_word`.
+// Words behind the numbers of an answer, by their places in `tail_word`, where the tables' words follow.
 pub const DEAD: u64 = 0;
 
 pub const ABSENT: u64 = 1;
@@ -15,6 +17,18 @@ pub const NONE: u64 = 2;
 pub const INVALID: u64 = 3;
 
 pub const END: u64 = 4;
+
+// Nothing, and a signed number.
+const NOTHING: u64 = 12;
+
+const SIGNED: u64 = 13;
+
+// First words of answers, by their places in `put`.
+const OK: u64 = 0;
+
+const REFUSED: u64 = 1;
+
+const UNKNOWN: u64 = 2;
 
 pub enum Reply {
     // the line is not one that is known
@@ -32,16 +46,26 @@ pub enum Reply {
     Full(u64, u64),
 }
 
-fn table_number(table: Table) -> u64 {
+// An answer as it is written: the first word, the first n of the numbers, and what stands behind them. Which it is is told before a
+// buffer is lent: an arm that hands a lent buffer on is dear to prove.
+pub struct Said {
+    head: u64,
+    n: usize,
+    numbers: [u64; 7],
+    tail: u64,
+    signed: i64,
+}
+
+fn table_word(table: Table) -> u64 {
     match table {
-        Table::Code => 0,
-        Table::Locations => 1,
-        Table::Exceptions => 2,
-        Table::Constants => 3,
-        Table::Names => 4,
-        Table::Marks => 5,
-        Table::Starts => 6,
-        Table::Text => 7,
+        Table::Code => 5,
+        Table::Locations => 6,
+        Table::Exceptions => 7,
+        Table::Constants => 8,
+        Table::Names => 9,
+        Table::Marks => 10,
+        Table::Starts => 11,
+        Table::Text => NOTHING,
     }
 }
 
@@ -50,101 +74,100 @@ pub fn of_refusal(refusal: Refusal) -> Reply {
     match refusal {
         Refusal::UnknownOpcodeAt(offset) => Reply::RefusedAt(n, offset as u64),
         Refusal::CutShort(offset) => Reply::RefusedAt(n, offset as u64),
-        Refusal::Full(table) => Reply::Full(n, table_number(table)),
+        Refusal::Full(table) => Reply::Full(n, table_word(table)),
         _ => Reply::Refused(n),
     }
 }
 
-// A word and a number.
-fn one(out: &mut [u8], at: usize, word: &[u8], n: u64) -> usize {
-    let o = output::text(out, at, word);
-    output::number(out, o, n)
+fn plain(head: u64, n: usize, x: u64, y: u64, tail: u64) -> Said {
+    Said {
+        head,
+        n,
+        numbers: [x, y, 0, 0, 0, 0, 0],
+        tail,
+        signed: 0,
+    }
 }
 
-// A word and two numbers.
-pub fn two(out: &mut [u8], at: usize, word: &[u8], a: u64, b: u64) -> usize {
-    let o = one(out, at, word, a);
-    output::number(out, o, b)
+// Up to five numbers.
+pub fn numbers(n: usize, a: u64, b: u64, c: u64, d: u64, e: u64) -> Said {
+    Said {
+        head: OK,
+        n,
+        numbers: [a, b, c, d, e, 0, 0],
+        tail: NOTHING,
+        signed: 0,
+    }
 }
 
-pub fn unknown(out: &mut [u8], at: usize, line: u64) -> usize {
-    let o = one(out, at, b"?", line);
-    output::ended(out, o)
+// Numbers and behind them a signed one.
+pub fn signed(n: usize, a: u64, b: u64, signed: i64) -> Said {
+    Said {
+        head: OK,
+        n,
+        numbers: [a, b, 0, 0, 0, 0, 0],
+        tail: SIGNED,
+        signed,
+    }
 }
 
-// A space and the entry at a place.
-fn entry(out: &mut [u8], at: usize, entries: &[u8], k: u64) -> usize {
+// The reply to the line of this number.
+pub fn said_of(reply: Reply, line: u64) -> Said {
+    match reply {
+        Reply::Bad => plain(UNKNOWN, 1, line, 0, NOTHING),
+        Reply::Fine => plain(OK, 0, 0, 0, NOTHING),
+        Reply::Word(k) => plain(OK, 0, 0, 0, k),
+        Reply::One(x) => plain(OK, 1, x, 0, NOTHING),
+        Reply::Two(x, y) => plain(OK, 2, x, y, NOTHING),
+        Reply::Net(net) => signed(0, 0, 0, output::wide_i32(net)),
+        Reply::Many(a, b, c, d, e, f, g) => Said {
+            head: OK,
+            n: 7,
+            numbers: [a, b, c, d, e, f, g],
+            tail: NOTHING,
+            signed: 0,
+        },
+        Reply::Refused(r) => plain(REFUSED, 1, r, 0, NOTHING),
+        Reply::RefusedAt(r, offset) => plain(REFUSED, 2, r, offset, NOTHING),
+        Reply::Full(r, table) => plain(REFUSED, 1, r, 0, table),
+    }
+}
+
+// The entry at a place.
+fn entry(out: &mut Out, at: usize, entries: &[u8], k: u64) -> usize {
     let s = cursor::nth(entries, k);
     let from = s.from;
     let to = s.to;
-    let o = output::text(out, at, b" ");
-    output::text(out, o, &entries[from..to])
+    output::text(out, at, &entries[from..to])
 }
 
-fn full(out: &mut [u8], at: usize, n: u64, table: u64) -> usize {
-    let o = one(out, at, b"refused", n);
+fn tail_word(out: &mut Out, at: usize, k: u64) -> usize {
+    let o = output::text(out, at, b" ");
     entry(
         out,
         o,
-        b"code locations exceptions constants names marks starts",
-        table,
+        b"dead absent none invalid end code locations exceptions constants names marks starts",
+        k,
     )
 }
 
-fn ok_word(out: &mut [u8], at: usize, k: u64) -> usize {
-    let o = output::text(out, at, b"ok");
-    entry(out, o, b"dead absent none invalid end", k)
-}
-
-fn net_text(out: &mut [u8], at: usize, net: i32) -> usize {
-    let o = output::text(out, at, b"ok");
-    output::signed(out, o, output::wide_i32(net))
-}
-
-fn many(
-    out: &mut [u8],
-    at: usize,
-    a: u64,
-    b: u64,
-    c: u64,
-    d: u64,
-    e: u64,
-    f: u64,
-    g: u64,
-) -> usize {
-    let o2 = two(out, at, b"ok", a, b);
-    let o3 = output::number(out, o2, c);
-    let o4 = output::number(out, o3, d);
-    let o5 = output::number(out, o4, e);
-    let o6 = output::number(out, o5, f);
-    output::number(out, o6, g)
-}
-
-// A refusal, without the line's end.
-pub fn refused(reply: Reply, out: &mut [u8], at: usize) -> usize {
-    match reply {
-        Reply::Refused(n) => one(out, at, b"refused", n),
-        Reply::RefusedAt(n, offset) => two(out, at, b"refused", n, offset),
-        Reply::Full(n, table) => full(out, at, n, table),
-        _ => at,
+fn tail(k: u64, signed: i64, out: &mut Out, at: usize) -> usize {
+    match k {
+        NOTHING => at,
+        SIGNED => output::signed(out, at, signed),
+        _ => tail_word(out, at, k),
     }
 }
 
-// The answer to a line, without the line's end.
-fn spoken(reply: Reply, line: u64, out: &mut [u8], at: usize) -> usize {
-    match reply {
-        Reply::Bad => one(out, at, b"?", line),
-        Reply::Fine => output::text(out, at, b"ok"),
-        Reply::Word(k) => ok_word(out, at, k),
-        Reply::One(n) => one(out, at, b"ok", n),
-        Reply::Two(a, b) => two(out, at, b"ok", a, b),
-        Reply::Net(net) => net_text(out, at, net),
-        Reply::Many(a, b, c, d, e, f, g) => many(out, at, a, b, c, d, e, f, g),
-        _ => refused(reply, out, at),
-    }
+// The answer, without the line's end.
+pub fn put(s: Said, out: &mut Out, at: usize) -> usize {
+    let numbers = s.numbers;
+    let o = entry(out, at, b"ok refused ?", s.head);
+    let e = cells::first64(&numbers, s.n, out, o);
+    tail(s.tail, s.signed, out, e)
 }
 
-pub fn say(reply: Reply, line: u64, out: &mut [u8], at: usize) -> usize {
-    let o = spoken(reply, line, out, at);
+pub fn say(reply: Reply, line: u64, out: &mut Out, at: usize) -> usize {
+    let o = put(said_of(reply, line), out, at);
     output::ended(out, o)
 }

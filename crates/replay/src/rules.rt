@@ -94,13 +94,16 @@ fn entry(start: u64, end: u64, handler: u64, depth: u64, count: u64, kind: u64) 
     }
 }
 
-// `find_in_two`.
-fn find_in_two(a: Args) -> Reply {
-    let v = a.values;
-    let offset = args::low32(v[0]);
-    let x = entry(v[1], v[2], v[3], v[4], v[5], v[6]);
-    let y = entry(v[7], v[8], v[9], v[10], v[11], v[12]);
-    found_reply(records::find_in_two(x, y, offset))
+// `find_in_two`: the second record stands behind the arguments.
+fn find_in_two(line: &[u8], a: Args) -> Reply {
+    let next = a.next;
+    let b = args::arguments(line, next, b"wwwhhk");
+    if !b.good {
+        return Reply::Bad;
+    }
+    let x = entry(a.x1, a.x2, a.x3, a.x4, a.x5, a.x6);
+    let y = entry(b.x0, b.x1, b.x2, b.x3, b.x4, b.x5);
+    found_reply(records::find_in_two(x, y, args::low32(a.x0)))
 }
 
 // The operand of a shape's number.
@@ -130,19 +133,17 @@ fn operand(s: u64, a: u64, b: u64, c: u64, n: u64) -> Operand {
 
 // `effect OP S A B C N`: the letters of the last four are the shape's, by its number.
 fn effect(line: &[u8], a: Args) -> Reply {
-    let v = a.values;
     let next = a.next;
-    let rest = args::of_entry(
+    let w = args::of_entry(
         line,
         next,
         b":zzzz :bzzz :izzz :hzzz :ozzz :bbzz :hbzz :hhzz :hbbz :bzzb :hbzb :hhbz",
-        v[1],
+        a.x1,
     );
-    if !rest.good {
+    if !w.good {
         return Reply::Bad;
     }
-    let w = rest.values;
-    net_reply(effects::stack_effect(args::low8(v[0]), operand(v[1], w[0], w[1], w[2], w[3])))
+    net_reply(effects::stack_effect(args::low8(a.x0), operand(a.x1, w.x0, w.x1, w.x2, w.x3)))
 }
 
 fn operator(k: u64) -> CmpOperator {
@@ -172,27 +173,31 @@ fn assert_flags(line: &[u8], a: Args) -> Reply {
     if !rest.good {
         return Reply::Bad;
     }
-    let w = rest.values;
-    Reply::One(flags::assert_flags(Compared::With(operator(w[0]))) as u64)
+    Reply::One(flags::assert_flags(Compared::With(operator(rest.x0))) as u64)
 }
 
-pub fn run(k: u64, line: &[u8], a: Args) -> Reply {
-    if k == 5 {
-        return effect(line, a);
-    }
-    if k == 6 {
-        return assert_flags(line, a);
-    }
-    if !a.good {
-        return Reply::Bad;
-    }
-    let v = a.values;
-    let x = args::low8(v[0]);
+// Those on an opcode or a byte.
+fn on_byte(k: u64, x: u8) -> Reply {
     match k {
         0 => shape_reply(shapes::operand_shape(x)),
         1 => net_reply(effects::jump_taken_stack_effect(x)),
         2 => dead_reply(effects::makes_dead(x)),
-        3 => flags_reply(flags::decode_assert_flags(x)),
-        _ => find_in_two(a),
+        _ => flags_reply(flags::decode_assert_flags(x)),
+    }
+}
+
+fn of_byte(k: u64, a: Args) -> Reply {
+    if !a.good {
+        return Reply::Bad;
+    }
+    on_byte(k, args::low8(a.x0))
+}
+
+pub fn run(k: u64, line: &[u8], a: Args) -> Reply {
+    match k {
+        4 => find_in_two(line, a),
+        5 => effect(line, a),
+        6 => assert_flags(line, a),
+        _ => of_byte(k, a),
     }
 }

@@ -7,9 +7,12 @@ use crate::cursor;
 use crate::emissions;
 use crate::given;
 use crate::holdings;
+use crate::input::Input;
 use crate::jumps;
 use crate::kept;
 use crate::kept::Kept;
+use crate::kept::Lent;
+use crate::kept::Turn;
 use crate::looks;
 use crate::reply;
 use crate::reply::Reply;
@@ -18,8 +21,8 @@ use crate::states;
 use crate::tables;
 use crate::tables::Cells;
 use crate::tables::Code;
-use crate::tables::Depths;
 use crate::tables::Marks;
+use crate::tables::Out;
 use crate::tables::Rows;
 use crate::tables::Zeros;
 use builder::Answer;
@@ -27,8 +30,9 @@ use builder::Depth;
 use builder::START_CELLS;
 use builder::regions;
 
-// What `new` asks for: the depth as it is kept, and the cells of each table.
+// What `new` asks for: the depth, and the cells of each table.
 struct Order {
+    dead: bool,
     depth: u64,
     args: Args,
 }
@@ -38,6 +42,7 @@ fn ordered(line: &[u8], c: cursor::Cursor) -> Order {
     let next = kind.next;
     if kind.number == 0 {
         return Order {
+            dead: true,
             depth: 0,
             args: args::arguments(line, next, b"CLLKKLL"),
         };
@@ -45,96 +50,133 @@ fn ordered(line: &[u8], c: cursor::Cursor) -> Order {
     let d = cursor::number_to(line, next, 65535);
     let after = d.next;
     Order {
-        depth: std::num::wrapping_add_u64(d.number, 1),
+        dead: false,
+        depth: d.number,
         args: args::arguments(line, after, b"CLLKKLL"),
     }
 }
 
-fn fresh32(t: &mut [u32], base: usize, n: u64) {
-    let p = tables::part(base, n as usize, t.len());
-    let from = p.from;
-    let to = p.to;
-    tables::fill32(&mut t[from..to]);
-}
-
-fn fresh64(t: &mut [u64], base: usize, n: u64) {
-    let p = tables::part(base, n as usize, t.len());
-    let from = p.from;
-    let to = p.to;
-    tables::fill64(&mut t[from..to]);
-}
-
-fn fresh8(t: &mut [u8], n: u64) {
-    let to = tables::least(n as usize, t.len());
-    tables::fill8(&mut t[0..to]);
-}
-
 // Fills what is lent as a new session finds it.
-fn fresh(s: &Kept, code: &mut Code, rows: &mut Rows, cells: &mut Cells, marks: &mut Marks) {
-    fresh8(code, s[kept::CODE]);
-    fresh32(rows, tables::LOCATIONS, s[kept::LOCATIONS]);
-    fresh32(rows, tables::EXCEPTIONS, s[kept::EXCEPTIONS]);
-    fresh32(rows, tables::STARTS, s[kept::STARTS]);
-    fresh64(cells, tables::CONSTANTS, s[kept::CONSTANTS]);
-    fresh64(cells, tables::NAMES, s[kept::NAMES]);
-    fresh32(marks, 0, s[kept::MARKS]);
+fn fresh(lent: Lent, code: &mut Code, rows: &mut Rows, cells: &mut Cells, marks: &mut Marks) {
+    tables::fill8(code, 0, lent.code);
+    tables::fill32(rows, tables::LOCATIONS, lent.locations);
+    tables::fill32(rows, tables::EXCEPTIONS, lent.exceptions);
+    tables::fill32(rows, tables::STARTS, lent.starts);
+    tables::fill64(cells, tables::CONSTANTS, lent.constants);
+    tables::fill64(cells, tables::NAMES, lent.names);
+    tables::fill32(marks, 0, lent.marks);
 }
 
-fn begin(told: Depth, starts: u64, rows: &mut [u32]) -> Answer {
-    let p = tables::part(tables::STARTS, starts as usize, rows.len());
+fn begin(told: Depth, starts: usize, rows: &mut [u32]) -> Answer {
+    let p = tables::part(tables::STARTS, starts, rows.len());
     let from = p.from;
     let to = p.to;
     regions::new(told, &mut rows[from..to])
 }
 
-// No builder, and so many cells of each table.
-fn lend(v: [u64; 13], s: &mut Kept) {
-    s[kept::HERE] = 0;
-    s[kept::CODE] = v[0];
-    s[kept::LOCATIONS] = v[1];
-    s[kept::EXCEPTIONS] = v[2];
-    s[kept::CONSTANTS] = v[3];
-    s[kept::NAMES] = v[4];
-    s[kept::MARKS] = v[5];
-    s[kept::STARTS] = v[6];
+fn lent_of(a: Args) -> Lent {
+    Lent {
+        code: a.x0 as usize,
+        locations: a.x1 as usize,
+        exceptions: a.x2 as usize,
+        constants: a.x3 as usize,
+        names: a.x4 as usize,
+        marks: a.x5 as usize,
+        starts: a.x6 as usize,
+    }
 }
 
-// `new`.
+// `new`. Where it is refused there is no builder.
 fn anew(
     line: &[u8],
     a: Args,
-    s: &mut Kept,
+    s: Kept,
     code: &mut Code,
     rows: &mut Rows,
     cells: &mut Cells,
     marks: &mut Marks,
-) -> Reply {
+) -> Turn {
     let c = a.next;
     let o = ordered(line, c);
     let w = o.args;
     if !w.good {
-        return Reply::Bad;
+        return Turn {
+            kept: s,
+            reply: Reply::Bad,
+        };
     }
-    let v = w.values;
-    lend(v, s);
-    fresh(s, code, rows, cells, marks);
-    kept::settled(begin(kept::depth_of(o.depth), s[kept::STARTS], rows), s)
+    let builder = s.builder;
+    let lent = lent_of(w);
+    fresh(lent, code, rows, cells, marks);
+    let kept = Kept {
+        here: false,
+        lent,
+        builder,
+    };
+    kept::settled(
+        begin(states::depth_of(o.dead, o.depth), lent.starts, rows),
+        kept,
+    )
 }
 
-// Calls that are lent no table to change.
+// The checker over the used code and starts.
+fn check_lent(s: Kept, code: &[u8], rows: &[u32], marks: &mut [u32]) -> Reply {
+    let b = s.builder;
+    let core = b.core;
+    let n = tables::least(core.code, code.len());
+    let used = tables::least(b.starts, rows.len());
+    let p = tables::part(tables::STARTS, used * START_CELLS, rows.len());
+    let from = p.from;
+    let to = p.to;
+    let d = tables::part(tables::DEPTHS, n + 1, marks.len());
+    let first = d.from;
+    let end = d.to;
+    given::check_here(&code[0..n], &rows[from..to], &mut marks[first..end])
+}
+
+// Whether the used code and starts are lent, and the depths have room for one cell more than the code.
+fn can_check(good: bool, s: Kept) -> bool {
+    let b = s.builder;
+    let core = b.core;
+    let lent = s.lent;
+    if !good {
+        return false;
+    }
+    if lent.code < core.code {
+        return false;
+    }
+    if lent.starts / START_CELLS < b.starts {
+        return false;
+    }
+    core.code < tables::DEPTH_CELLS
+}
+
+// `check_here`.
+fn check_here(a: Args, s: Kept, code: &Code, rows: &Rows, marks: &mut Marks) -> Reply {
+    if !can_check(a.good, s) {
+        return Reply::Bad;
+    }
+    check_lent(s, code, rows, marks)
+}
+
+// Calls that leave state and tables as they are.
 fn asked(
-    group: u64,
-    k: u64,
+    q: Query,
     line: &[u8],
-    a: Args,
-    s: &mut Kept,
+    s: Kept,
+    code: &Code,
     rows: &Rows,
     cells: &Cells,
+    marks: &mut Marks,
 ) -> Reply {
+    let group = q.group;
+    let a = q.args;
+    let lent = s.lent;
     match group {
-        commands::STATES => states::run(k, line, a, s),
-        commands::LOOKS => looks::run(k, a, s, rows, cells),
-        _ => rules::run(k, line, a),
+        commands::LOOKS => looks::run(q.k, a, s, rows, cells),
+        commands::SUM => looks::sum(line, a, lent, code, rows, cells, marks),
+        commands::CHECK_HERE => check_here(a, s, code, rows, marks),
+        _ => rules::run(q.k, line, a),
     }
 }
 
@@ -142,81 +184,32 @@ fn asked(
 fn called(
     q: Query,
     line: &[u8],
-    s: &mut Kept,
+    s: Kept,
     code: &mut Code,
     rows: &mut Rows,
     cells: &mut Cells,
     marks: &mut Marks,
-) -> Reply {
+) -> Turn {
     let group = q.group;
     let k = q.k;
     let a = q.args;
+    let lent = s.lent;
     match group {
         commands::EMISSIONS => emissions::run(k, line, a, s, code, rows),
         commands::JUMPS => jumps::run(k, a, s, code, rows, marks),
-        commands::HOLDINGS => holdings::run(k, line, a, s, rows, cells, marks),
-        commands::CELLS => looks::touch(k, line, a, s, code, rows, cells, marks),
+        commands::CELLS => holdings::run_cells(k, line, a, s, cells, marks),
+        commands::ROWS => holdings::run_rows(k, a, s, rows),
+        commands::STATES => states::run(k, line, a, s),
+        commands::POKE => Turn {
+            kept: s,
+            reply: looks::poke(line, a, lent, code, rows, cells, marks),
+        },
         commands::NEW => anew(line, a, s, code, rows, cells, marks),
-        _ => asked(group, k, line, a, s, rows, cells),
+        _ => Turn {
+            kept: s,
+            reply: asked(q, line, s, code, rows, cells, marks),
+        },
     }
-}
-
-// The checker over the used code and starts.
-fn check_lent(
-    s: &Kept,
-    code: &[u8],
-    rows: &[u32],
-    depths: &mut [u32],
-    out: &mut [u8],
-    at: usize,
-) -> usize {
-    let n = tables::least(s[kept::USED_CODE] as usize, code.len());
-    let used = tables::least(s[kept::USED_STARTS] as usize, rows.len());
-    let p = tables::part(tables::STARTS, used * START_CELLS, rows.len());
-    let from = p.from;
-    let to = p.to;
-    let d = tables::least(n + 1, depths.len());
-    given::check_here(&code[0..n], &rows[from..to], &mut depths[0..d], out, at)
-}
-
-// Whether the used code and starts are lent, and the depths have room for one cell more than the code.
-fn can_check(good: bool, s: &Kept, room: usize) -> bool {
-    if !good {
-        return false;
-    }
-    if s[kept::CODE] < s[kept::USED_CODE] {
-        return false;
-    }
-    let starts = s[kept::STARTS] as usize / START_CELLS;
-    if starts < s[kept::USED_STARTS] as usize {
-        return false;
-    }
-    let used = s[kept::USED_CODE] as usize;
-    used < room
-}
-
-// `cells TABLE FROM TO`, `check_here`.
-fn listed(
-    q: Query,
-    line: &[u8],
-    s: &Kept,
-    number: u64,
-    code: &Code,
-    rows: &Rows,
-    cells: &Cells,
-    marks: &Marks,
-    depths: &mut Depths,
-    out: &mut [u8],
-    at: usize,
-) -> usize {
-    let a = q.args;
-    if q.k == 0 {
-        return looks::run_cells(line, a, s, number, code, rows, cells, marks, out, at);
-    }
-    if !can_check(a.good, s, depths.len()) {
-        return reply::unknown(out, at, number);
-    }
-    check_lent(s, code, rows, depths, out, at)
 }
 
 // Whether the words behind a name are what the call takes. The calls that look say so themselves.
@@ -227,7 +220,8 @@ fn is_good(q: Query, line: &[u8]) -> bool {
     match group {
         commands::EMISSIONS => emissions::is_good(k, line, a),
         commands::JUMPS => a.good,
-        commands::HOLDINGS => holdings::is_good(k, line, a),
+        commands::CELLS => holdings::is_good(k, line, a),
+        commands::ROWS => a.good,
         commands::STATES => states::is_good(k, line, a),
         _ => true,
     }
@@ -242,7 +236,7 @@ fn is_quiet(line: &[u8]) -> bool {
 }
 
 // The group of a line's call, where the call can be made.
-fn group_of(q: Query, line: &[u8], size: usize, here: u64) -> u64 {
+fn group_of(q: Query, line: &[u8], size: usize, here: bool) -> u64 {
     let group = q.group;
     if 8192 < size {
         return commands::UNKNOWN;
@@ -250,10 +244,10 @@ fn group_of(q: Query, line: &[u8], size: usize, here: u64) -> u64 {
     if is_quiet(line) {
         return commands::QUIET;
     }
-    if commands::LISTS < group {
+    if commands::SHOW < group {
         return group;
     }
-    if here == 0 {
+    if !here {
         return commands::UNKNOWN;
     }
     if is_good(q, line) {
@@ -262,47 +256,74 @@ fn group_of(q: Query, line: &[u8], size: usize, here: u64) -> u64 {
     commands::UNKNOWN
 }
 
-// Any line: the first `size` bytes of what is lent, cut where it is longer than a line may be.
+// What is kept from line to line; `at` is how much of the output is filled.
+pub struct State {
+    pub going: bool,
+    pub number: u64,
+    pub rest: Input,
+    pub at: usize,
+    // the bytes of the line that is read
+    pub size: usize,
+    pub kept: Kept,
+}
+
+pub fn first() -> State {
+    State {
+        going: true,
+        number: 0,
+        rest: Input { from: 0, to: 0 },
+        at: 0,
+        size: 0,
+        kept: kept::nothing(),
+    }
+}
+
+// The same with more output.
+fn written(s: State, at: usize) -> State {
+    let mut w = s;
+    w.at = at;
+    w
+}
+
+fn spoken(turn: Turn, s: State, out: &mut Out) -> State {
+    let kept = turn.kept;
+    let reply = turn.reply;
+    let mut w = s;
+    w.at = reply::say(reply, s.number, out, s.at);
+    w.kept = kept;
+    w
+}
+
+// Any line: the first bytes of what is lent, cut where it is longer than a line may be.
 pub fn line_turn(
+    s: State,
     whole: &[u8],
-    size: usize,
-    s: &mut Kept,
-    number: u64,
     code: &mut Code,
     rows: &mut Rows,
     cells: &mut Cells,
     marks: &mut Marks,
     zeros: &Zeros,
-    depths: &mut Depths,
-    out: &mut [u8],
-    at: usize,
-) -> usize {
-    let n = tables::least(size, whole.len());
+    out: &mut Out,
+) -> State {
+    let kept = s.kept;
+    let at = s.at;
+    let number = s.number;
+    let n = tables::least(s.size, whole.len());
     let line = &whole[0..n];
     let q = commands::find(line);
-    let group = group_of(q, line, size, s[kept::HERE]);
+    let group = group_of(q, line, s.size, kept.here);
     match group {
-        commands::QUIET => at,
-        commands::UNKNOWN => reply::unknown(out, at, number),
-        commands::GIVEN => given::run(q, line, number, zeros, depths, out, at),
-        commands::LISTS => listed(
-            q,
-            line,
-            s,
-            number,
-            code,
-            rows,
-            cells,
-            marks,
-            depths,
-            out,
-            at,
-        ),
-        _ => reply::say(
-            called(q, line, s, code, rows, cells, marks),
-            number,
-            out,
-            at,
-        ),
+        commands::QUIET => s,
+        commands::UNKNOWN => written(s, reply::say(Reply::Bad, number, out, at)),
+        commands::GIVEN => written(s, given::run(q, line, number, zeros, marks, out, at)),
+        commands::SHOW => {
+            let a = q.args;
+            let lent = kept.lent;
+            written(
+                s,
+                looks::show(line, a, lent, number, code, rows, cells, marks, out, at),
+            )
+        }
+        _ => spoken(called(q, line, kept, code, rows, cells, marks), s, out),
     }
 }

@@ -6,8 +6,11 @@ use crate::cursor::Cursor;
 use crate::cursor::Value;
 use crate::kept;
 use crate::kept::Kept;
+use crate::kept::Turn;
 use crate::reply;
 use crate::reply::Reply;
+use builder::Builder;
+use builder::Core;
 use builder::Depth;
 use builder::queries;
 use code::CodeRange;
@@ -31,27 +34,27 @@ fn truth(b: bool) -> Reply {
     Reply::One(0)
 }
 
-fn counts(s: &Kept) -> Reply {
+fn counts(b: Builder) -> Reply {
+    let core = b.core;
     Reply::Many(
-        s[kept::USED_CODE],
-        s[kept::USED_LOCATIONS],
-        s[kept::USED_EXCEPTIONS],
-        s[kept::USED_CONSTANTS],
-        s[kept::USED_NAMES],
-        s[kept::USED_MARKS],
-        s[kept::USED_STARTS],
+        core.code as u64,
+        core.locations as u64,
+        b.exceptions as u64,
+        b.constants as u64,
+        b.names as u64,
+        core.marks as u64,
+        b.starts as u64,
     )
 }
 
 // Those that only look.
-pub fn query(k: u64, s: &Kept) -> Reply {
-    let b = kept::builder_of(s);
+pub fn query(k: u64, b: Builder) -> Reply {
     match k {
         4 => Reply::One(queries::current_offset(b) as u64),
         5 => position(queries::current_position(b)),
         6 => depth_reply(queries::stack_depth(b)),
         7 => truth(queries::is_dead(b)),
-        _ => counts(s),
+        _ => counts(b),
     }
 }
 
@@ -61,26 +64,20 @@ fn focus_of(line: &[u8], a: Args) -> Focus {
     }
     let next = a.next;
     let rest = args::arguments(line, next, b"ww");
-    let v = rest.values;
-    Focus::Present(kept::range(v[0], v[1]))
+    Focus::Present(kept::range(rest.x0, rest.x1))
 }
 
 // `set_location`: a range, or a range and its focus.
-fn set_location(line: &[u8], a: Args, s: &mut Kept) -> Reply {
-    let v = a.values;
-    let focus = focus_of(line, a);
-    let b = queries::set_location(kept::builder_of(s), kept::range(v[0], v[1]), focus);
-    kept::with(b, Reply::Fine, s)
+fn set_location(line: &[u8], a: Args, b: Builder) -> Builder {
+    queries::set_location(b, kept::range(a.x0, a.x1), focus_of(line, a))
 }
 
-// The depth as it is kept.
-fn depth_of(line: &[u8], c: Cursor) -> u64 {
-    let a = args::arguments(line, c, b"t");
-    if a.dead {
-        return 0;
+// `dead`, or a depth.
+pub fn depth_of(dead: bool, depth: u64) -> Depth {
+    if dead {
+        return Depth::Dead;
     }
-    let v = a.values;
-    std::num::wrapping_add_u64(v[0], 1)
+    Depth::Live(args::low16(depth))
 }
 
 // Which count `tamper` means: a table's, or the depth.
@@ -93,23 +90,93 @@ fn tampered(line: &[u8], a: Args) -> Value {
     )
 }
 
-fn tamper(line: &[u8], a: Args, s: &mut Kept) -> Reply {
+fn with_core(b: Builder, core: Core) -> Builder {
+    let location = b.location;
+    Builder {
+        core,
+        location,
+        exceptions: b.exceptions,
+        constants: b.constants,
+        names: b.names,
+        starts: b.starts,
+    }
+}
+
+fn with_depth(b: Builder, depth: Depth) -> Builder {
+    let c = b.core;
+    let core = Core {
+        code: c.code,
+        locations: c.locations,
+        marks: c.marks,
+        depth,
+    };
+    with_core(b, core)
+}
+
+// The core with another count of code, locations or marks.
+fn core_count(k: u64, core: Core, n: usize) -> Core {
+    let mut c = core;
+    match k {
+        0 => {
+            c.code = n;
+            c
+        }
+        1 => {
+            c.locations = n;
+            c
+        }
+        _ => {
+            c.marks = n;
+            c
+        }
+    }
+}
+
+// The builder with another count of exceptions, constants, names or starts.
+fn other_count(k: u64, builder: Builder, n: usize) -> Builder {
+    let mut b = builder;
+    match k {
+        2 => {
+            b.exceptions = n;
+            b
+        }
+        3 => {
+            b.constants = n;
+            b
+        }
+        4 => {
+            b.names = n;
+            b
+        }
+        _ => {
+            b.starts = n;
+            b
+        }
+    }
+}
+
+fn with_count(k: u64, b: Builder, n: usize) -> Builder {
+    let core = b.core;
+    match k {
+        0 | 1 | 5 => with_core(b, core_count(k, core, n)),
+        _ => other_count(k, b, n),
+    }
+}
+
+fn tamper(line: &[u8], a: Args, b: Builder) -> Builder {
     let t = tampered(line, a);
     let next = t.next;
     if 6 < t.number {
-        s[kept::DEPTH] = depth_of(line, next);
-        return Reply::Fine;
+        let depth = args::arguments(line, next, b"t");
+        return with_depth(b, depth_of(depth.dead, depth.x0));
     }
-    let rest = args::arguments(line, next, b"d");
-    let v = rest.values;
-    s[kept::USED_CODE + t.number as usize] = v[0];
-    Reply::Fine
+    let count = args::arguments(line, next, b"d");
+    with_count(t.number, b, count.x0 as usize)
 }
 
 fn is_depth(line: &[u8], c: Cursor) -> bool {
     let a = args::arguments(line, c, b"t");
-    let v = a.values;
-    if 65535 < v[0] {
+    if 65535 < a.x0 {
         return false;
     }
     a.good
@@ -134,9 +201,10 @@ pub fn is_good(k: u64, line: &[u8], a: Args) -> bool {
     rest.good
 }
 
-pub fn run(k: u64, line: &[u8], a: Args, s: &mut Kept) -> Reply {
+pub fn run(k: u64, line: &[u8], a: Args, s: Kept) -> Turn {
+    let b = s.builder;
     if k == 0 {
-        return set_location(line, a, s);
+        return kept::with(set_location(line, a, b), Reply::Fine, s);
     }
-    tamper(line, a, s)
+    kept::with(tamper(line, a, b), Reply::Fine, s)
 }

@@ -1,5 +1,5 @@
-// The program's tables, and the parts of them that are lent to the builder. Three tables of 32 bits share an array, and so do the
-// two of 64 bits: no call is lent two of them at once, and the functions that hand all tables on have fewer parameters.
+// The program's tables, and the parts of them that are lent to the builder. Tables that no call is lent at once share an array, so that
+// the functions that hand all tables on have fewer parameters.
 ghost use Prim.Native.Nat.{_≤_};
 use crate::cursor::Span;
 
@@ -8,14 +8,15 @@ pub type Code = [u8; 1048640];
 // locations, exceptions, starts
 pub type Rows = [u32; 196608];
 
-pub type Marks = [u32; 65536];
+// marks, and the depths that a check is lent
+pub type Marks = [u32; 196608];
 
 // constants, names
 pub type Cells = [u64; 131080];
 
-pub type Depths = [u32; 131072];
-
 pub type Zeros = [u8; 1048600];
+
+pub type Out = [u8; 65536];
 
 // Where a table begins in its array.
 pub const LOCATIONS: usize = 0;
@@ -23,6 +24,10 @@ pub const LOCATIONS: usize = 0;
 pub const EXCEPTIONS: usize = 65536;
 
 pub const STARTS: usize = 131072;
+
+pub const DEPTHS: usize = 65536;
+
+pub const DEPTH_CELLS: usize = 131072;
 
 pub const CONSTANTS: usize = 0;
 
@@ -64,30 +69,37 @@ fn after(x: u8) -> u8 {
     if x < 244 { x + 7 } else { x - 244 }
 }
 
-pub fn fill8(t: &mut [u8]) {
+// So many cells from a place on, as a new table holds them.
+pub fn fill8(t: &mut [u8], base: usize, n: usize) {
+    let p = part(base, n, t.len());
+    let to = p.to;
     let mut x: u8 = 3;
-    let mut i: usize = 0;
-    while i < t.len() {
+    let mut i = p.from;
+    while i < to {
         t[i] = x;
         x = after(x);
         i += 1;
     }
 }
 
-pub fn fill32(t: &mut [u32]) {
+pub fn fill32(t: &mut [u32], base: usize, n: usize) {
+    let p = part(base, n, t.len());
+    let to = p.to;
     let mut x: u8 = 3;
-    let mut i: usize = 0;
-    while i < t.len() {
+    let mut i = p.from;
+    while i < to {
         t[i] = as32(x);
         x = after(x);
         i += 1;
     }
 }
 
-pub fn fill64(t: &mut [u64]) {
+pub fn fill64(t: &mut [u64], base: usize, n: usize) {
+    let p = part(base, n, t.len());
+    let to = p.to;
     let mut x: u8 = 3;
-    let mut i: usize = 0;
-    while i < t.len() {
+    let mut i = p.from;
+    while i < to {
         t[i] = wide8(x);
         x = after(x);
         i += 1;
@@ -95,18 +107,8 @@ pub fn fill64(t: &mut [u64]) {
 }
 
 // The sum with one cell more. Whatever h was, it is taken below the modulus first.
-fn folded(h: u64, x: u64) -> u64 {
+pub fn folded(h: u64, x: u64) -> u64 {
     ((h % 1000000007) * 257 + x % 65521) % 1000000007
-}
-
-pub fn sum8(t: &[u8]) -> u64 {
-    let mut h: u64 = 0;
-    let mut i: usize = 0;
-    while i < t.len() {
-        h = folded(h, wide8(t[i]));
-        i += 1;
-    }
-    h
 }
 
 pub fn sum32(t: &[u32]) -> u64 {
@@ -114,16 +116,6 @@ pub fn sum32(t: &[u32]) -> u64 {
     let mut i: usize = 0;
     while i < t.len() {
         h = folded(h, wide32(t[i]));
-        i += 1;
-    }
-    h
-}
-
-pub fn sum64(t: &[u64]) -> u64 {
-    let mut h: u64 = 0;
-    let mut i: usize = 0;
-    while i < t.len() {
-        h = folded(h, t[i]);
         i += 1;
     }
     h

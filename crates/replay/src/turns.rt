@@ -1,6 +1,7 @@
-// What a call with an answer of its own made: the builder goes back to what is kept, and the value is the reply.
+// What a call with an answer of its own leaves, and its value as the reply.
 use crate::kept;
 use crate::kept::Kept;
+use crate::kept::Turn;
 use crate::reply;
 use crate::reply::Reply;
 use builder::Added;
@@ -23,23 +24,32 @@ fn target(t: JumpTarget) -> Reply {
     }
 }
 
-pub fn jumped(answer: Jumped, s: &mut Kept) -> Reply {
+pub fn jumped(answer: Jumped, s: Kept) -> Turn {
     match answer {
         Jumped::Made(b, l) => kept::with(b, label(l), s),
-        Jumped::Refused(refusal) => reply::of_refusal(refusal),
+        Jumped::Refused(refusal) => Turn {
+            kept: s,
+            reply: reply::of_refusal(refusal),
+        },
     }
 }
 
-pub fn targeted(answer: Targeted, s: &mut Kept) -> Reply {
+pub fn targeted(answer: Targeted, s: Kept) -> Turn {
     match answer {
         Targeted::Made(b, t) => kept::with(b, target(t), s),
-        Targeted::Refused(refusal) => reply::of_refusal(refusal),
+        Targeted::Refused(refusal) => Turn {
+            kept: s,
+            reply: reply::of_refusal(refusal),
+        },
     }
 }
 
-pub fn added(answer: Added, s: &mut Kept) -> Reply {
+pub fn added(answer: Added, s: Kept) -> Turn {
     match answer {
         Added::Made(b, index) => kept::with(b, Reply::One(index as u64), s),
-        Added::Refused(refusal) => reply::of_refusal(refusal),
+        Added::Refused(refusal) => Turn {
+            kept: s,
+            reply: reply::of_refusal(refusal),
+        },
     }
 }

@@ -8,42 +8,38 @@ use Rattle.replay.proofs.tables.fill8.Tie as tie
 use Rattle.replay.proofs.tables.fill8.Reads as reads
 use Rattle.replay.proofs.tables.fill8.Lts as lts
 use Rattle.replay.proofs.tables.after.Reads as after-reads
+use Rattle.replay.proofs.tables.part.Reads as part-reads
 
 abbrev Inv-loop : tie.InvT-loop
-Inv-loop t₀ x₀ i₀ t x i = (i ≤ length t) × (length t ≡ length t₀)
+Inv-loop t₀ base n to x₀ i₀ t x i = (to ≤ length t) × (length t ≡ length t₀)
 
 abbrev μ-loop : tie.MeasureT-loop
-μ-loop t₀ x₀ i₀ t x i = length t₀ - i
+μ-loop t₀ base n to x₀ i₀ t x i = to - i
 
--- src/tables.rt:81:5
+part-requires : tie.Need-part-requires Inv-loop μ-loop
+part-requires c κs = search needs
+
 loop-holds : tie.Need-loop-holds Inv-loop μ-loop
 loop-holds c = search needs
 
--- src/tables.rt:82:9
 slice-write-t : tie.Need-slice-write-t Inv-loop μ-loop
 slice-write-t c = search needs
 
--- src/tables.rt:83:9
 after-requires : tie.Need-after-requires Inv-loop μ-loop
 after-requires c κs = search needs
 
--- src/tables.rt:84:9
 add-i : tie.Need-add-i Inv-loop μ-loop
 add-i c = search needs
 
--- src/tables.rt:81:5
 loop-less : tie.Need-loop-less Inv-loop μ-loop
 loop-less c = search needs
 
--- src/tables.rt:81:5
 loop-again : tie.Need-loop-again Inv-loop μ-loop
 loop-again c = simp length-set (omega arith)
 
--- src/tables.rt:78:1
 same-length : tie.Need-same-length Inv-loop μ-loop
 same-length c = search needs
 
--- src/tables.rt:78:1
 returns : tie.Need-returns Inv-loop μ-loop
 returns c = search needs
 
@@ -53,6 +49,7 @@ fill8-spec =
     (tie.spec
     Inv-loop
     μ-loop
+    part-requires
     loop-holds
     slice-write-t
     after-requires
