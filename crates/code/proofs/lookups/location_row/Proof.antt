@@ -23,7 +23,14 @@ cell-of-requires-6 : tie.Need-cell-of-requires-6
 cell-of-requires-6 c κs = search needs
 
 returns : tie.Need-returns
-returns c = cc
+returns c = rw (
+  c .before .before .before .before .before .cell-of .ensures,
+  c .before .before .before .before .cell-of2 .ensures,
+  c .before .before .before .cell-of3 .ensures,
+  c .before .before .cell-of4 .ensures,
+  c .before .cell-of5 .ensures,
+  c .cell-of6 .ensures,
+)
 
 pub location-row-spec : {M : Type 1} → statement M
 location-row-spec =
