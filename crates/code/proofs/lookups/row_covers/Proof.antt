@@ -14,7 +14,7 @@ covers-requires : tie.Need-covers-requires
 covers-requires c κs = search needs
 
 returns : tie.Need-returns
-returns c = cc
+returns c = rw (c .before .before .cell-of .ensures, c .before .cell-of2 .ensures) at (c .covers .ensures)
 
 pub row-covers-spec : {M : Type 1} → statement M
 row-covers-spec = tie.close (tie.spec cell-of-requires cell-of-requires-2 covers-requires returns)
