@@ -53,14 +53,12 @@ abbrev pub rowsAfter : Location → ℕ → ℕ
 rowsAfter Unset rows = rows
 rowsAfter (Set r f) rows = rows + 1
 
--- the core after an instruction of so many bytes
+-- the core after an instruction of so many bytes, with so many location rows then
+abbrev pub coreWith : Core → ℕ → ℕ → Depth → Core
+coreWith c rows size after = record { code = c .code + size; locations = rows; marks = c .marks; depth = after }
+
 abbrev pub coreAfter : Core → Location → ℕ → Depth → Core
-coreAfter c l size after = record {
-  code = c .code + size;
-  locations = rowsAfter l (c .locations);
-  marks = c .marks;
-  depth = after;
-}
+coreAfter c l size after = coreWith c (rowsAfter l (c .locations)) size after
 
 -- the answer of the core, and code and locations as the call leaves them
 pub record CoreOutcome : Type 0 where

@@ -156,12 +156,7 @@ pub fn jump_to_core(
                 code,
                 locations,
             );
-            CoreAnswer::Accepted(Core {
-                code: core.code + size,
-                locations: rows,
-                marks: core.marks,
-                depth: after,
-            })
+            CoreAnswer::Accepted(emitting::grown(core, rows, size, after))
         }
     }
 }

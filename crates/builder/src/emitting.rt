@@ -1,6 +1,6 @@
 // The one way in which instructions are emitted: decide, then commit.
-ghost use Prim.Native.Nat.{_≤_};
-ghost use Rattle.builder.specs.Emit.{locationRow, locationsAfter, rowsAfter, Committed, coreOutcome, emitCore, outcome, emitNamed, emitOf};
+ghost use Prim.Native.Nat.{_+_, _≤_};
+ghost use Rattle.builder.specs.Emit.{locationRow, locationsAfter, rowsAfter, Committed, coreWith, coreOutcome, emitCore, outcome, emitNamed, emitOf};
 ghost use Rattle.builder.specs.Plan.{rowFits, Goes};
 ghost use Rattle.builder.specs.Tables.{codeLimit};
 ghost use Rattle.code.specs.Bytes.{front};
@@ -12,6 +12,7 @@ use crate::Answer;
 use crate::Builder;
 use crate::Core;
 use crate::CoreAnswer;
+use crate::Depth;
 use crate::LOCATION_CELLS;
 use crate::Location;
 use crate::Plan;
@@ -66,7 +67,21 @@ pub fn commit(
     write_location(location, core.locations, at, locations)
 }
 
-// Emission on the core.
+// The core behind an instruction of so many bytes, with so many location rows.
+pub fn grown(core: Core, rows: usize, size: usize, after: Depth) -> Core
+    requires { ⌜ core .code + size ≤ codeLimit ⌝ }
+    ensures { λ r. ⌜ r ≡ coreWith core rows size after ⌝ }
+{
+    Core {
+        code: core.code + size,
+        locations: rows,
+        marks: core.marks,
+        depth: after,
+    }
+}
+
+// Emission on the core. The slice of names is made anew for `commit`: copied whole it keeps this function a call, with the
+// state in memory.
 fn emit_core(
     core: Core,
     location: Location,
@@ -93,7 +108,6 @@ fn emit_core(
         Plan::Idle => CoreAnswer::Accepted(core),
         Plan::Refuse(refusal) => CoreAnswer::Refused(refusal),
         Plan::Go(after, _, size) => {
-            // the slice made anew: copied whole it keeps this function a call, with the state in memory
             let rows = commit(
                 core,
                 location,
@@ -103,12 +117,7 @@ fn emit_core(
                 code,
                 locations,
             );
-            CoreAnswer::Accepted(Core {
-                code: core.code + size,
-                locations: rows,
-                marks: core.marks,
-                depth: after,
-            })
+            CoreAnswer::Accepted(grown(core, rows, size, after))
         }
     }
 }

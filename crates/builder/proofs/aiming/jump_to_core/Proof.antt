@@ -38,10 +38,10 @@ commit-requires c κs =
     let a = c .before .before .before .before .before .before .before .before .before .before .before .args in
     to-writes (a .core) (a .location) (a .opcode) (a .target) _ _ (a .marks .now) _ _ _ _ (toZ-ofZ {w = w16} (record { sfits = c .before .before .before .to-i16 .ok }) ∙ c .before .before .before .to-i16 .ensures) (sym (c .before .before .before .before .before .before .before .decide-to .ensures) ∙ c .before .before .before .before .before .plan2 .given .1)
 
-add-t26 : tie.Need-add-t26
-add-t26 c =
-    let a = c .before .before .before .before .before .before .before .before .before .before .before .before .before .before .before .before .before .args in
-    let g = to-goes (a .core) (a .location) (a .opcode) (a .target) _ _ (a .marks .now) _ _ _ (sym (c .before .before .before .before .before .before .before .before .before .before .before .before .before .decide-to .ensures) ∙ c .before .before .before .before .before .before .before .before .before .before .before .plan2 .given .1) in
+grown-requires : tie.Need-grown-requires
+grown-requires c κs =
+    let a = c .before .before .before .before .before .before .before .before .before .before .before .before .before .before .before .before .args in
+    let g = to-goes (a .core) (a .location) (a .opcode) (a .target) _ _ (a .marks .now) _ _ _ (sym (c .before .before .before .before .before .before .before .before .before .before .before .before .decide-to .ensures) ∙ c .before .before .before .before .before .before .before .before .before .before .plan2 .given .1) in
     omega (arith, g .goes .limit, g .sound .limit)
 
 returns : tie.Need-returns
@@ -61,7 +61,7 @@ returns-3 c =
     let a = c .before .before .before .before .before .before .before .before .before .before .before .before .before .before .before .before .before .args in
     let w = c .before .before .before .before .before .commit .ensures in
     let e = w .bytes ∙ ap (λ (z : ℤ). put (a .core .code) (encode (a .opcode) (Offset z) []) (a .code .now)) (toZ-ofZ {w = w16} (record { sfits = c .before .before .before .before .before .before .before .before .before .to-i16 .ok }) ∙ c .before .before .before .before .before .before .before .before .before .to-i16 .ensures) in
-    rw (w .count, e, w .rows) (jumped-to (a .core) (a .location) (a .opcode) (a .target) (a .code .now) (a .locations .now) (a .marks .now) (Go _ _ _) (sym (c .before .before .before .before .before .before .before .before .before .before .before .before .before .decide-to .ensures) ∙ c .before .before .before .before .before .before .before .before .before .before .before .plan2 .given .1))
+    rw (c .grown .ensures, w .count, e, w .rows) (jumped-to (a .core) (a .location) (a .opcode) (a .target) (a .code .now) (a .locations .now) (a .marks .now) (Go _ _ _) (sym (c .before .before .before .before .before .before .before .before .before .before .before .before .before .decide-to .ensures) ∙ c .before .before .before .before .before .before .before .before .before .before .before .plan2 .given .1))
 
 pub jump-to-core-spec : {M : Type 1} → statement M
 jump-to-core-spec =
@@ -74,7 +74,7 @@ jump-to-core-spec =
     to-i16-requires
     slice-aggregate-commit
     commit-requires
-    add-t26
+    grown-requires
     returns
     returns-2
     same-length

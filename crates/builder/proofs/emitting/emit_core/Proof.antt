@@ -34,9 +34,9 @@ part-commit-end c = search needs
 commit-requires : tie.Need-commit-requires
 commit-requires c κs = rw (part-to-end (c .before .before .before .before .before .before .before .before .before .before .args .kwnames .now) 0) (goes _ _ (c .before .before .before .before .before .before .before .before .before .before .args .opcode) (c .before .before .before .before .before .before .before .before .before .before .args .name) _ _ _ _ _ _ _ (sym (c .before .before .before .before .before .before .decide .ensures) ∙ c .before .before .before .before .plan2 .given .1))
 
-add-t19 : tie.Need-add-t19
-add-t19 c =
-    let g = plan-goes _ _ (c .before .before .before .before .before .before .before .before .before .before .before .before .before .before .before .before .args .opcode) (c .before .before .before .before .before .before .before .before .before .before .before .before .before .before .before .before .args .name) _ _ _ _ _ _ _ (sym (c .before .before .before .before .before .before .before .before .before .before .before .before .decide .ensures) ∙ c .before .before .before .before .before .before .before .before .before .before .plan2 .given .1) in
+grown-requires : tie.Need-grown-requires
+grown-requires c κs =
+    let g = plan-goes _ _ (c .before .before .before .before .before .before .before .before .before .before .before .before .before .before .before .args .opcode) (c .before .before .before .before .before .before .before .before .before .before .before .before .before .before .before .args .name) _ _ _ _ _ _ _ (sym (c .before .before .before .before .before .before .before .before .before .before .before .decide .ensures) ∙ c .before .before .before .before .before .before .before .before .before .plan2 .given .1) in
     omega (arith, g .goes .limit, g .sound .limit)
 
 returns : tie.Need-returns
@@ -55,7 +55,7 @@ returns-3 : tie.Need-returns-3
 returns-3 c =
     let a = c .before .before .before .before .before .before .before .before .before .before .before .before .before .before .before .before .args in
     let w = rw (part-to-end (a .kwnames .now) 0) at (c .before .before .before .before .before .commit .ensures) in
-    rw (w .count, w .bytes, w .rows) (emitted (a .core) (a .location) (a .opcode) (a .name) (a .operand) (a .kwnames .now) (a .code .now) (a .locations .now) (Go _ _ _) (sym (c .before .before .before .before .before .before .before .before .before .before .before .before .decide .ensures) ∙ c .before .before .before .before .before .before .before .before .before .before .plan2 .given .1))
+    rw (c .grown .ensures, w .count, w .bytes, w .rows) (emitted (a .core) (a .location) (a .opcode) (a .name) (a .operand) (a .kwnames .now) (a .code .now) (a .locations .now) (Go _ _ _) (sym (c .before .before .before .before .before .before .before .before .before .before .before .before .decide .ensures) ∙ c .before .before .before .before .before .before .before .before .before .before .plan2 .given .1))
 
 pub emit-core-spec : {M : Type 1} → statement M
 emit-core-spec =
@@ -69,7 +69,7 @@ emit-core-spec =
     part-commit-start
     part-commit-end
     commit-requires
-    add-t19
+    grown-requires
     returns
     returns-2
     same-length
