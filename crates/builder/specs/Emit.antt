@@ -53,10 +53,11 @@ abbrev pub rowsAfter : Location → ℕ → ℕ
 rowsAfter Unset rows = rows
 rowsAfter (Set r f) rows = rows + 1
 
--- the core after an instruction of so many bytes, with so many location rows then
+-- the core with so many location rows, after an instruction of so many bytes
 abbrev pub coreWith : Core → ℕ → ℕ → Depth → Core
 coreWith c rows size after = record { code = c .code + size; locations = rows; marks = c .marks; depth = after }
 
+-- the same, the location's row counted
 abbrev pub coreAfter : Core → Location → ℕ → Depth → Core
 coreAfter c l size after = coreWith c (rowsAfter l (c .locations)) size after
 

@@ -43,13 +43,13 @@ abbrev pub rowFits : Location → ℕ → ℕ → Bool
 rowFits Unset rows ll = true
 rowFits (Set r f) rows ll = rowFree locationCells rows ll
 
--- 18 of a row that goes with an instruction
+-- 18 of a row that goes with an instruction: of its location, of a jump's mark
 abbrev pub alsoRow : Plan → Bool → Table → Plan
 alsoRow Idle free t = Idle
 alsoRow (Refuse r) free t = Refuse r
 alsoRow (Go after word size) free t = guard free (Full t) (Go after word size)
 
--- 18 of the code
+-- 18 of the code, whose limit is 1,048,576 bytes
 unfoldable pub roomOf : ℕ → ℕ → Depth → ℕ → ℕ → Plan
 roomOf at size after word cl =
     guard (leb size (cl - at)) (Full Code)
@@ -72,7 +72,7 @@ bytesOf at d k o n word cl =
     (guard (eqb (namesIn o) n) WrongShape
     (fallenOf (afterOf d k o) at k (sizeOf (operandShape o) n) word cl))
 
--- then 18 of the locations
+-- "then 18 in the order code, locations"
 unfoldable pub liveOf : Core → Location → ℕ → ℕ → Operand → ℕ → ℕ → ℕ → ℕ → Plan
 liveOf c l d k o n word cl ll = alsoRow (bytesOf (c .code) d k o n word cl) (rowFits l (c .locations) ll) Locations
 
