@@ -4,7 +4,8 @@
 //!
 //! A program owes no promise: only crates with src/lib.rt are looked at. A `pub fn` of a module that lib.rt
 //! declares by plain `mod` is reached by no other crate and counts as private, unless a `pub use` of lib.rt
-//! hands it on. An exported function is always public.
+//! hands it on. A `pub fn` of an `impl` block is reached by its type, wherever the block stands: it counts where lib.rt has
+//! the type as `pub`. An exported function is always public.
 
 use std::{
     env, fs,
@@ -41,6 +42,8 @@ struct Counts {
 struct Function<'a> {
     line: usize,
     name: &'a str,
+    /// The type whose `impl` block has it.
+    owner: Option<&'a str>,
     public: bool,
     exported: bool,
     ensures: Vec<&'a str>,
@@ -122,7 +125,9 @@ fn look_at_crate(source_folder: &Path, list_all: bool, counts: &mut Counts) {
         let module = module_of(source_folder, &path);
         let open = path == root || declares_open(&root_text, &module);
         for function in functions(&text) {
-            let reached = open || hands_on(&root_text, &module, function.name);
+            let reached = open
+                || hands_on(&root_text, &module, function.name)
+                || function.owner.is_some_and(|owner| declares_type(&root_text, owner));
             count(&path, &function, reached, list_all, counts);
             if function.exported || (function.public && reached) {
                 counts.lines.push((function.name.to_owned(), line_of(source_folder, &path, &function)));
@@ -135,7 +140,9 @@ fn look_at_crate(source_folder: &Path, list_all: bool, counts: &mut Counts) {
 fn line_of(source_folder: &Path, path: &Path, function: &Function<'_>) -> String {
     let crate_name = source_folder.parent().and_then(Path::file_name).expect("src/ stands in a crate");
     let mut place = crate_name.to_string_lossy().into_owned();
-    if path.file_stem().is_some_and(|stem| stem != "lib") {
+    if let Some(owner) = function.owner {
+        place = format!("{place}::{owner}");
+    } else if path.file_stem().is_some_and(|stem| stem != "lib") {
         place = format!("{place}::{}", module_of(source_folder, path));
     }
     let promises: Vec<String> = function.ensures.iter().map(|clause| said(clause)).collect();
@@ -223,6 +230,13 @@ fn declares_open(root_text: &str, module: &str) -> bool {
         .any(|w| w[0].1 == "pub" && w[1].1 == "mod" && w[2].1 == module)
 }
 
+/// Whether lib.rt declares the type as `pub`.
+fn declares_type(root_text: &str, owner: &str) -> bool {
+    words(root_text)
+        .windows(3)
+        .any(|w| w[0].1 == "pub" && ["struct", "enum"].contains(&w[1].1) && w[2].1 == owner)
+}
+
 /// Whether a `pub use` of lib.rt names the module, and the function or all of it.
 fn hands_on(root_text: &str, module: &str, name: &str) -> bool {
     root_text.split(';').any(|item| {
@@ -244,6 +258,11 @@ fn words(text: &str) -> Vec<(usize, &str)> {
 /// Each `fn NAME` of a text without comments.
 fn functions(text: &str) -> Vec<Function<'_>> {
     let words = words(text);
+    let blocks: Vec<(usize, usize, &str)> = words
+        .windows(2)
+        .filter(|pair| pair[0].1 == "impl")
+        .map(|pair| (pair[0].0, pair[0].0 + end_of_braces(&text[pair[0].0..]), pair[1].1))
+        .collect();
     let pairs = words
         .windows(2)
         .filter(|pair| pair[0].1 == "fn" && text[pair[0].0 + 2..pair[1].0].trim().is_empty());
@@ -259,6 +278,7 @@ fn functions(text: &str) -> Vec<Function<'_>> {
             Function {
                 line: text[..at].matches('\n').count() + 1,
                 name,
+                owner: blocks.iter().find(|(from, to, _)| (*from..*to).contains(&at)).map(|(_, _, owner)| *owner),
                 public: before.ends_with("pub") && !before.ends_with("_pub"),
                 exported,
                 ensures,

@@ -1,5 +1,5 @@
 // Deciding and writing a jump to a target.
-ghost use Prim.Native.Nat.{_<_, _/_};
+ghost use Prim.Native.Nat.{ℕ, _<_, _/_};
 ghost use Rattle.builder.specs.Emit.{coreOutcome};
 ghost use Rattle.builder.specs.Jumps.{spotOf, toLiveOf, toPlanOf, jumpToCore};
 ghost use Rattle.builder.specs.Plan.{Sound};
@@ -65,7 +65,6 @@ fn decide_spot(
 
 // What is decided of a jump to a target in live code, at depth `d`.
 fn decide_to_live(
-    target: JumpTarget,
     mark: Mark,
     core: Core,
     location: Location,
@@ -75,17 +74,12 @@ fn decide_to_live(
     ll: usize,
 ) -> Plan
     requires { ⌜ Sound core cl ll ⌝ }
-    ensures { λ r. ⌜ r ≡ toLiveOf (takenDepthOf d opcode) target mark core location d opcode cl ll ⌝ }
+    ensures { λ r. ⌜ ((row : ℕ) → r ≡ toLiveOf (takenDepthOf d opcode) (JumpTarget.Row row) mark core location d opcode cl ll) ⌝ }
 {
     let taken = depths::taken(d, opcode);
     match taken {
         After::Refused(refusal) => Plan::Refuse(refusal),
-        After::Depth(e) => {
-            let JumpTarget::Row(_) = target else {
-                return Plan::Refuse(Refusal::DeadTarget);
-            };
-            decide_spot(mark, e, core, location, d, opcode, cl, ll)
-        }
+        After::Depth(e) => decide_spot(mark, e, core, location, d, opcode, cl, ll),
     }
 }
 
@@ -94,12 +88,12 @@ fn decide_to(
     core: Core,
     location: Location,
     opcode: u8,
-    target: JumpTarget,
+    row: usize,
     cl: usize,
     ll: usize,
     marks: &[u32],
 ) -> Plan
-    ensures { λ r. ⌜ r ≡ toPlanOf core location opcode target cl ll (now (marks .entry)) ⌝ }
+    ensures { λ r. ⌜ r ≡ toPlanOf core location opcode (JumpTarget.Row row) cl ll (now (marks .entry)) ⌝ }
 {
     if !deciding::sound(core, cl, ll) {
         return Plan::Refuse(Refusal::Unsound);
@@ -107,7 +101,7 @@ fn decide_to(
     if marks.len() / MARK_CELLS < core.marks {
         return Plan::Refuse(Refusal::Unsound);
     }
-    let mark = marking::target_mark(target, core.marks, marks);
+    let mark = marking::mark_in(core.marks, marks, row);
     if !marking::mark_sound(core.code, mark) {
         return Plan::Refuse(Refusal::Unsound);
     }
@@ -118,7 +112,38 @@ fn decide_to(
     let Depth::Live(d) = depth else {
         return Plan::Idle;
     };
-    decide_to_live(target, mark, core, location, d, opcode, cl, ll)
+    decide_to_live(mark, core, location, d, opcode, cl, ll)
+}
+
+// A jump to a target that was made in dead code, on the core: it is refused, or does nothing.
+pub fn jump_nowhere(
+    core: Core,
+    location: Location,
+    opcode: u8,
+    code: &[u8],
+    locations: &[u32],
+    marks: &[u32],
+) -> CoreAnswer
+    ensures { λ r. ⌜ coreOutcome r (now (code .entry)) (now (locations .entry)) ≡ jumpToCore core location opcode JumpTarget.Dead (now (code .entry)) (now (locations .entry)) (now (marks .entry)) ⌝ }
+{
+    if !deciding::sound(core, code.len(), locations.len()) {
+        return CoreAnswer::Refused(Refusal::Unsound);
+    }
+    if marks.len() / MARK_CELLS < core.marks {
+        return CoreAnswer::Refused(Refusal::Unsound);
+    }
+    if opcodes::LAST < opcode {
+        return CoreAnswer::Refused(Refusal::UnknownOpcode);
+    }
+    let depth = core.depth;
+    let Depth::Live(d) = depth else {
+        return CoreAnswer::Accepted(core);
+    };
+    let taken = depths::taken(d, opcode);
+    match taken {
+        After::Refused(refusal) => CoreAnswer::Refused(refusal),
+        After::Depth(_) => CoreAnswer::Refused(Refusal::DeadTarget),
+    }
 }
 
 // A jump to a target, on the core.
@@ -126,18 +151,18 @@ pub fn jump_to_core(
     core: Core,
     location: Location,
     opcode: u8,
-    target: JumpTarget,
+    row: usize,
     code: &mut [u8],
     locations: &mut [u32],
     marks: &[u32],
 ) -> CoreAnswer
-    ensures { λ r. ⌜ coreOutcome r (now (code .exit)) (now (locations .exit)) ≡ jumpToCore core location opcode target (now (code .entry)) (now (locations .entry)) (now (marks .entry)) ⌝ }
+    ensures { λ r. ⌜ coreOutcome r (now (code .exit)) (now (locations .exit)) ≡ jumpToCore core location opcode (JumpTarget.Row row) (now (code .entry)) (now (locations .entry)) (now (marks .entry)) ⌝ }
 {
     let plan = decide_to(
         core,
         location,
         opcode,
-        target,
+        row,
         code.len(),
         locations.len(),
         marks,

@@ -5,18 +5,17 @@ use code::Focus;
 use op::Refusal;
 
 mod aiming;
+mod calls;
 mod deciding;
-pub mod emission;
 mod emitting;
-pub mod entries;
-pub mod instructions;
+mod entries;
 mod jumping;
-pub mod jumps;
+mod jumps;
 mod marking;
-pub mod names;
-pub mod patching;
-pub mod queries;
-pub mod regions;
+mod names;
+mod narrowing;
+mod patching;
+mod regions;
 mod states;
 mod store;
 

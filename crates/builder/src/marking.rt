@@ -3,12 +3,11 @@ ghost use mathlib.Core.Path.{_≡_};
 ghost use Prim.Native.Nat.{_+_, _≤_, _/_};
 ghost use lib.ListN.{length};
 ghost use Rattle.builder.specs.Tables.{markCells, jumpSize};
-ghost use Rattle.builder.specs.Marks.{markOf, markIn, targetMark, fits, markSound, markable, near, bits, meets, revived};
+ghost use Rattle.builder.specs.Marks.{markOf, markIn, fits, markSound, markable, near, bits, meets, revived};
 use crate::CODE_LIMIT;
 use crate::Core;
 use crate::Depth;
 use crate::JUMP_SIZE;
-use crate::JumpTarget;
 use crate::MARK_CELLS;
 use crate::Mark;
 use crate::WORD_MAX;
@@ -46,17 +45,6 @@ pub fn mark_in(rows: usize, marks: &[u32], i: usize) -> Mark
     }
     let base = i * MARK_CELLS;
     mark_of(marks[base], marks[base + 1], marks[base + 2])
-}
-
-// The mark that a target names.
-pub fn target_mark(target: JumpTarget, rows: usize, marks: &[u32]) -> Mark
-    requires { ⌜ rows ≤ length (now marks) / markCells ⌝ }
-    ensures { λ r. ⌜ r ≡ targetMark target rows (now (marks .entry)) ⌝ }
-{
-    let JumpTarget::Row(i) = target else {
-        return Mark::Absent;
-    };
-    mark_in(rows, marks, i)
 }
 
 // Whether a mark's depth is one, and its place within the code.

@@ -1,21 +1,17 @@
-// The names of local slots, and the end of building, which fills the absent ones.
+// The cells of names, and whether a label is open.
 ghost use mathlib.Core.Path.{_≡_};
 ghost use mathlib.Core.List.{map};
 ghost use Prim.Native.Nat.{ℕ, _+_, _≤_, _<_, _/_};
 ghost use lib.ListN.{length};
 ghost use Rattle.code.specs.Bytes.{front};
 ghost use Rattle.builder.specs.Tables.{markCells};
-ghost use Rattle.builder.specs.Calls.{kept, nameCell, named, extension, withNames, registerNamesOf, registerNameOf, anyOpen, buildOf};
-use crate::Answer;
+ghost use Rattle.builder.specs.Calls.{nameCell, named, extension, withNames, anyOpen};
 use crate::Builder;
-use crate::CODE_LIMIT;
 use crate::MARK_CELLS;
 use crate::marking;
-use op::Refusal;
-use op::Table;
 
 // The state with so many names.
-fn with_names(b: Builder, names: usize) -> Builder
+pub fn with_names(b: Builder, names: usize) -> Builder
     ensures { λ r. ⌜ r ≡ withNames b names ⌝ }
 {
     let core = b.core;
@@ -38,7 +34,7 @@ fn name_cell(name: u32) -> u64
 }
 
 // The cells of names at the front.
-fn fill_names(out: &mut [u64], names: &[u32])
+pub fn fill_names(out: &mut [u64], names: &[u32])
     requires { ⌜ length (now names) ≤ length (now out) ⌝ }
     ensures { λ r. ⌜ now (out .exit) ≡ front (map nameCell (now (names .entry))) (now (out .entry)) ⌝ }
 {
@@ -49,30 +45,8 @@ fn fill_names(out: &mut [u64], names: &[u32])
     }
 }
 
-// Names the slots 0, 1, .. in one pass, before any other is named.
-pub fn register_local_names(b: Builder, names: &[u32], table: &mut [u64]) -> Answer
-    ensures { λ r. ⌜ kept r (now (table .exit)) ≡ registerNamesOf b (now (names .entry)) (now (table .entry)) ⌝ }
-{
-    let core = b.core;
-    let held = b.names;
-    if CODE_LIMIT < core.code {
-        return Answer::Refused(Refusal::Unsound);
-    }
-    if table.len() < held {
-        return Answer::Refused(Refusal::Unsound);
-    }
-    if held != 0 {
-        return Answer::Refused(Refusal::NamesHeld);
-    }
-    if table.len() < names.len() {
-        return Answer::Refused(Refusal::Full(Table::Names));
-    }
-    fill_names(table, names);
-    Answer::Accepted(with_names(b, names.len()))
-}
-
 // A cell that holds a name keeps it.
-fn named_cell(cell: u64, name: u32) -> u64
+pub fn named_cell(cell: u64, name: u32) -> u64
     ensures { λ r. ⌜ r ≡ named cell name ⌝ }
 {
     if cell == 0 {
@@ -82,7 +56,7 @@ fn named_cell(cell: u64, name: u32) -> u64
 }
 
 // So many absent slots and a name at the front.
-fn extend(out: &mut [u64], absent: usize, name: u32)
+pub fn extend(out: &mut [u64], absent: usize, name: u32)
     requires { ⌜ absent < length (now out) ⌝ }
     ensures { λ r. ⌜ now (out .exit) ≡ front (extension absent name) (now (out .entry)) ⌝ }
 {
@@ -94,32 +68,8 @@ fn extend(out: &mut [u64], absent: usize, name: u32)
     out[absent] = name_cell(name);
 }
 
-// Names a slot, where it has no name yet.
-pub fn register_local_name(b: Builder, slot: u16, name: u32, table: &mut [u64]) -> Answer
-    ensures { λ r. ⌜ kept r (now (table .exit)) ≡ registerNameOf b slot name (now (table .entry)) ⌝ }
-{
-    let core = b.core;
-    let held = b.names;
-    if CODE_LIMIT < core.code {
-        return Answer::Refused(Refusal::Unsound);
-    }
-    if table.len() < held {
-        return Answer::Refused(Refusal::Unsound);
-    }
-    let at = slot as usize;
-    if at < held {
-        table[at] = named_cell(table[at], name);
-        return Answer::Accepted(b);
-    }
-    if table.len() <= at {
-        return Answer::Refused(Refusal::Full(Table::Names));
-    }
-    extend(&mut table[held..], at - held, name);
-    Answer::Accepted(with_names(b, at + 1))
-}
-
 // Whether one of the first `rows` marks is an open label.
-fn any_open(rows: usize, marks: &[u32]) -> bool
+pub fn any_open(rows: usize, marks: &[u32]) -> bool
     requires { ⌜ rows ≤ length (now marks) / markCells ⌝ }
     ensures { λ r. ⌜ r ≡ anyOpen rows (now (marks .entry)) ⌝ }
 {
@@ -134,7 +84,7 @@ fn any_open(rows: usize, marks: &[u32]) -> bool
 }
 
 // Fills the cells that hold no name.
-fn fill_absent(cells: &mut [u64], name: u32)
+pub fn fill_absent(cells: &mut [u64], name: u32)
     ensures { λ r. ⌜ now (cells .exit) ≡ map (λ (cell : ℕ). named cell name) (now (cells .entry)) ⌝ }
 {
     let mut i = 0;
@@ -142,26 +92,4 @@ fn fill_absent(cells: &mut [u64], name: u32)
         cells[i] = named_cell(cells[i], name);
         i += 1;
     }
-}
-
-// Finishes the body: no label is open, and slots without a name get `fill`.
-pub fn build(b: Builder, fill: u32, names: &mut [u64], marks: &[u32]) -> Answer
-    ensures { λ r. ⌜ kept r (now (names .exit)) ≡ buildOf b fill (now (names .entry)) (now (marks .entry)) ⌝ }
-{
-    let core = b.core;
-    let held = b.names;
-    if CODE_LIMIT < core.code {
-        return Answer::Refused(Refusal::Unsound);
-    }
-    if names.len() < held {
-        return Answer::Refused(Refusal::Unsound);
-    }
-    if marks.len() / MARK_CELLS < core.marks {
-        return Answer::Refused(Refusal::Unsound);
-    }
-    if any_open(core.marks, marks) {
-        return Answer::Refused(Refusal::OpenLabel);
-    }
-    fill_absent(&mut names[..held], fill);
-    Answer::Accepted(b)
 }

@@ -1,21 +1,17 @@
-// Patching a forward jump once its target is reached.
+// Deciding and writing a patch.
 ghost use mathlib.Core.Path.{_≡_};
 ghost use Prim.Native.Nat.{_+_, _≤_, _<_, _/_};
 ghost use lib.ListN.{length};
 ghost use Rattle.builder.specs.Tables.{codeLimit, markCells, wordMax, jumpSize};
 ghost use mathlib.Core.Bool.{true};
 ghost use Rattle.builder.specs.Marks.{markSound};
-ghost use Rattle.builder.specs.Patch.{openPlan, markPlanOf, PatchCommitted, patchOutcome, patchJumpOf};
-use crate::Answer;
-use crate::Builder;
+ghost use Rattle.builder.specs.Patch.{openPlan, markPlanOf, PatchCommitted};
 use crate::Core;
 use crate::Depth;
-use crate::JumpLabel;
 use crate::MARK_CELLS;
 use crate::Mark;
 use crate::Plan;
 use crate::marking;
-use crate::states;
 use crate::store;
 use op::Refusal;
 
@@ -53,7 +49,7 @@ fn decide_kind(mark: Mark, core: Core) -> Plan
 }
 
 // What a patch of this mark is to do.
-fn decide_mark(mark: Mark, core: Core) -> Plan
+pub fn decide_mark(mark: Mark, core: Core) -> Plan
     requires { ⌜ core .code ≤ codeLimit ⌝ }
     ensures { λ r. ⌜ r ≡ markPlanOf mark core ⌝ }
 {
@@ -64,7 +60,7 @@ fn decide_mark(mark: Mark, core: Core) -> Plan
 }
 
 // The displacement behind the opcode, and the mark's new kind; the core then.
-fn commit_patch(
+pub fn commit_patch(
     core: Core,
     i: usize,
     offset: usize,
@@ -85,28 +81,5 @@ fn commit_patch(
         locations: core.locations,
         marks: core.marks,
         depth: after,
-    }
-}
-
-// Has a label's jump go to where the code now ends. Dead code is live again at the label's depth.
-pub fn patch_jump(b: Builder, label: JumpLabel, code: &mut [u8], marks: &mut [u32]) -> Answer
-    ensures { λ r. ⌜ patchOutcome r (now (code .exit)) (now (marks .exit)) ≡ patchJumpOf b label (now (code .entry)) (now (marks .entry)) ⌝ }
-{
-    let core = b.core;
-    if !marking::counts_sound(core, code.len(), marks.len()) {
-        return Answer::Refused(Refusal::Unsound);
-    }
-    let JumpLabel::Row(i) = label else {
-        return Answer::Accepted(b);
-    };
-    let mark = marking::mark_in(core.marks, marks, i);
-    let plan = decide_mark(mark, core);
-    match plan {
-        Plan::Idle => Answer::Accepted(b),
-        Plan::Refuse(refusal) => Answer::Refused(refusal),
-        Plan::Go(after, w, offset) => {
-            let next = commit_patch(core, i, offset, w, after, code, marks);
-            Answer::Accepted(states::with_core(b, next))
-        }
     }
 }

@@ -26,3 +26,4 @@ pub mod Theorem
 pub mod Example
 pub mod Prefixes
 pub mod Promised
+pub mod Contracts

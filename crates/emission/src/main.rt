@@ -5,12 +5,6 @@ use builder::Answer;
 use builder::Builder;
 use builder::Depth;
 use builder::Jumped;
-use builder::emission;
-use builder::instructions;
-use builder::jumps;
-use builder::patching;
-use builder::queries;
-use builder::regions;
 use code::CodeRange;
 use code::Focus;
 use libc::STDOUT_FILENO;
@@ -32,42 +26,30 @@ fn turn(
     let at = CodeRange { start: i, end: i };
     let slot = (i % 300) as u16;
     let constant = (i % 65536) as u16;
-    let here = queries::set_location(b, at, Focus::Absent);
-    let Answer::Accepted(one) = emission::emit_u16(
-        here,
-        opcodes::LOAD_CONST,
-        constant,
-        code,
-        locations,
-    ) else {
+    let here = b.set_location(at, Focus::Absent);
+    let Answer::Accepted(one) = here.emit_u16(opcodes::LOAD_CONST, constant, code, locations) else {
         return here;
     };
-    let Answer::Accepted(two) = emission::emit_i8(one, opcodes::LOAD_SMALL_INT, 7, code, locations)
-    else {
+    let Answer::Accepted(two) = one.emit_i8(opcodes::LOAD_SMALL_INT, 7, code, locations) else {
         return one;
     };
-    let Answer::Accepted(three) = emission::emit(two, opcodes::BINARY_ADD, code, locations) else {
+    let Answer::Accepted(three) = two.emit(opcodes::BINARY_ADD, code, locations) else {
         return two;
     };
-    let Answer::Accepted(four) = instructions::emit_store_local(three, slot, code, locations) else {
+    let Answer::Accepted(four) = three.emit_store_local(slot, code, locations) else {
         return three;
     };
-    let Answer::Accepted(five) = instructions::emit_load_local(four, slot, code, locations) else {
+    let Answer::Accepted(five) = four.emit_load_local(slot, code, locations) else {
         return four;
     };
-    let Jumped::Made(six, label) = jumps::emit_jump(
-        five,
-        opcodes::JUMP_IF_FALSE,
-        code,
-        locations,
-        marks,
-    ) else {
+    let Jumped::Made(six, label) = five.emit_jump(opcodes::JUMP_IF_FALSE, code, locations, marks)
+    else {
         return five;
     };
-    let Answer::Accepted(seven) = patching::patch_jump(six, label, code, marks) else {
+    let Answer::Accepted(seven) = six.patch_jump(label, code, marks) else {
         return six;
     };
-    let Answer::Accepted(eight) = emission::emit(seven, opcodes::NOP, code, locations) else {
+    let Answer::Accepted(eight) = seven.emit(opcodes::NOP, code, locations) else {
         return seven;
     };
     eight
@@ -75,24 +57,17 @@ fn turn(
 
 // A call with keyword names and its return, at the rule's end.
 fn ending(b: Builder, code: &mut [u8; 65536], locations: &mut [u32; 106000]) -> Builder {
-    let Answer::Accepted(one) = instructions::emit_load_local(b, 0, code, locations) else {
+    let Answer::Accepted(one) = b.emit_load_local(0, code, locations) else {
         return b;
     };
-    let Answer::Accepted(two) = instructions::emit_load_local(one, 1, code, locations) else {
+    let Answer::Accepted(two) = one.emit_load_local(1, code, locations) else {
         return one;
     };
     let kwnames: [u16; 1] = [7];
-    let Answer::Accepted(three) = instructions::emit_call_function_kw(
-        two,
-        0,
-        &kwnames,
-        code,
-        locations,
-    ) else {
+    let Answer::Accepted(three) = two.emit_call_function_kw(0, &kwnames, code, locations) else {
         return two;
     };
-    let Answer::Accepted(four) = emission::emit(three, opcodes::RETURN_VALUE, code, locations)
-    else {
+    let Answer::Accepted(four) = three.emit(opcodes::RETURN_VALUE, code, locations) else {
         return three;
     };
     four
@@ -105,7 +80,7 @@ fn rule(
     marks: &mut [u32; 10000],
     starts: &mut [u32; 2],
 ) -> usize {
-    let made = regions::new(Depth::Live(0), starts);
+    let made = Builder::new(Depth::Live(0), starts);
     let Answer::Accepted(first) = made else {
         return 0;
     };
@@ -116,7 +91,7 @@ fn rule(
         i += 1;
     }
     let whole = ending(b, code, locations);
-    queries::current_offset(whole)
+    whole.current_offset()
 }
 
 // All rounds; the last rule's size.

@@ -8,8 +8,6 @@ use crate::lists;
 use crate::tables;
 use builder::Answer;
 use builder::Builder;
-use builder::emission;
-use builder::instructions;
 use code::signs;
 
 // By the shape of the operand: bytes x, y and z, words v and w. (Plain numbers, as a struct of the arguments makes each arm dearer to
@@ -27,14 +25,14 @@ fn shaped(
     locations: &mut [u32],
 ) -> Answer {
     match k {
-        0 => emission::emit(b, opcode, code, locations),
-        1 => emission::emit_u8(b, opcode, x, code, locations),
-        2 => emission::emit_i8(b, opcode, signs::to_i8(x), code, locations),
-        3 => emission::emit_u8_u8(b, opcode, x, y, code, locations),
-        4 => emission::emit_u16(b, opcode, v, code, locations),
-        5 => emission::emit_u16_u16(b, opcode, v, w, code, locations),
-        6 => emission::emit_u16_u8(b, opcode, v, y, code, locations),
-        _ => emission::emit_u16_u8_u8(b, opcode, v, y, z, code, locations),
+        0 => b.emit(opcode, code, locations),
+        1 => b.emit_u8(opcode, x, code, locations),
+        2 => b.emit_i8(opcode, signs::to_i8(x), code, locations),
+        3 => b.emit_u8_u8(opcode, x, y, code, locations),
+        4 => b.emit_u16(opcode, v, code, locations),
+        5 => b.emit_u16_u16(opcode, v, w, code, locations),
+        6 => b.emit_u16_u8(opcode, v, y, code, locations),
+        _ => b.emit_u16_u8_u8(opcode, v, y, z, code, locations),
     }
 }
 
@@ -50,13 +48,13 @@ fn chosen(
     locations: &mut [u32],
 ) -> Answer {
     match k {
-        8 => instructions::emit_call_builtin_function(b, x, y, code, locations),
-        9 => instructions::emit_call_builtin_type(b, x, y, code, locations),
-        10 => instructions::emit_raise_unbound_local(b, name, code, locations),
-        11 => instructions::emit_load_local(b, slot, code, locations),
-        12 => instructions::emit_store_local(b, slot, code, locations),
-        13 => instructions::emit_load_global_callable(b, slot, name, code, locations),
-        _ => instructions::emit_name_op(b, x, slot, name, y, code, locations),
+        8 => b.emit_call_builtin_function(x, y, code, locations),
+        9 => b.emit_call_builtin_type(x, y, code, locations),
+        10 => b.emit_raise_unbound_local(name, code, locations),
+        11 => b.emit_load_local(slot, code, locations),
+        12 => b.emit_store_local(slot, code, locations),
+        13 => b.emit_load_global_callable(slot, name, code, locations),
+        _ => b.emit_name_op(x, slot, name, y, code, locations),
     }
 }
 
@@ -98,15 +96,8 @@ fn named_call(
     let names = &kwnames[0..n];
     let x = args::low8(a.x0);
     match k {
-        15 => instructions::emit_call_function_kw(b, x, names, code, locations),
-        _ => instructions::emit_call_attr_kw(
-            b,
-            args::low16(a.x0),
-            args::low8(a.x1),
-            names,
-            code,
-            locations,
-        ),
+        15 => b.emit_call_function_kw(x, names, code, locations),
+        _ => b.emit_call_attr_kw(args::low16(a.x0), args::low8(a.x1), names, code, locations),
     }
 }
 

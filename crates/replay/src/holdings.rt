@@ -10,9 +10,6 @@ use crate::tables;
 use crate::turns;
 use builder::Answer;
 use builder::Builder;
-use builder::entries;
-use builder::names;
-use builder::regions;
 use code::HandlerKind;
 
 pub fn kind_of(k: u64) -> HandlerKind {
@@ -24,7 +21,7 @@ pub fn kind_of(k: u64) -> HandlerKind {
 
 fn all_names(b: Builder, given: &[u32], size: usize, table: &mut [u64]) -> Answer {
     let n = tables::least(size, given.len());
-    names::register_local_names(b, &given[0..n], table)
+    b.register_local_names(&given[0..n], table)
 }
 
 fn register_local_names(b: Builder, line: &[u8], c: Cursor, table: &mut [u64]) -> Answer {
@@ -39,14 +36,11 @@ fn in_cells(k: u64, line: &[u8], a: Args, s: Kept, table: &mut [u64], marks: &[u
     match k {
         0 => {
             let slot = args::low16(a.x0);
-            kept::settled(
-                names::register_local_name(b, slot, args::low32(a.x1), table),
-                s,
-            )
+            kept::settled(b.register_local_name(slot, args::low32(a.x1), table), s)
         }
         1 => kept::settled(register_local_names(b, line, c, table), s),
-        2 => kept::settled(names::build(b, args::low32(a.x0), table, marks), s),
-        _ => turns::added(entries::add_const(b, a.x0, table), s),
+        2 => kept::settled(b.build(args::low32(a.x0), table, marks), s),
+        _ => turns::added(b.add_const(a.x0, table), s),
     }
 }
 
@@ -76,8 +70,7 @@ pub fn run_cells(k: u64, line: &[u8], a: Args, s: Kept, cells: &mut [u64], marks
 }
 
 fn add_exception_entry(b: Builder, a: Args, table: &mut [u32]) -> Answer {
-    entries::add_exception_entry(
-        b,
+    b.add_exception_entry(
         a.x0 as usize,
         a.x1 as usize,
         a.x2 as usize,
@@ -91,7 +84,7 @@ fn add_exception_entry(b: Builder, a: Args, table: &mut [u32]) -> Answer {
 fn in_rows(k: u64, b: Builder, a: Args, table: &mut [u32]) -> Answer {
     match k {
         0 => add_exception_entry(b, a, table),
-        _ => regions::new_code_region(b, args::low16(a.x0), table),
+        _ => b.new_code_region(args::low16(a.x0), table),
     }
 }
 

@@ -8,8 +8,6 @@ use crate::tables;
 use crate::turns;
 use builder::JumpLabel;
 use builder::JumpTarget;
-use builder::jumps;
-use builder::patching;
 
 fn label(dead: bool, row: u64) -> JumpLabel {
     if dead {
@@ -38,14 +36,11 @@ fn made(
     match k {
         0 => {
             let to = target(a.dead, a.x1);
-            kept::settled(
-                jumps::emit_jump_to(b, opcode, to, code, locations, marks),
-                s,
-            )
+            kept::settled(b.emit_jump_to(opcode, to, code, locations, marks), s)
         }
-        1 => kept::settled(patching::patch_jump(b, label(a.dead, a.x0), code, marks), s),
-        2 => turns::jumped(jumps::emit_jump(b, opcode, code, locations, marks), s),
-        _ => turns::targeted(jumps::current_jump_target(b, marks), s),
+        1 => kept::settled(b.patch_jump(label(a.dead, a.x0), code, marks), s),
+        2 => turns::jumped(b.emit_jump(opcode, code, locations, marks), s),
+        _ => turns::targeted(b.current_jump_target(marks), s),
     }
 }
 

@@ -26,9 +26,9 @@ use crate::tables::Out;
 use crate::tables::Rows;
 use crate::tables::Zeros;
 use builder::Answer;
+use builder::Builder;
 use builder::Depth;
 use builder::START_CELLS;
-use builder::regions;
 
 // What `new` asks for: the depth, and the cells of each table.
 struct Order {
@@ -71,7 +71,7 @@ fn begin(told: Depth, starts: usize, rows: &mut [u32]) -> Answer {
     let p = tables::part(tables::STARTS, starts, rows.len());
     let from = p.from;
     let to = p.to;
-    regions::new(told, &mut rows[from..to])
+    Builder::new(told, &mut rows[from..to])
 }
 
 fn lent_of(a: Args) -> Lent {

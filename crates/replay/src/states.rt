@@ -12,7 +12,6 @@ use crate::reply::Reply;
 use builder::Builder;
 use builder::Core;
 use builder::Depth;
-use builder::queries;
 use code::CodeRange;
 use code::Focus;
 
@@ -50,10 +49,10 @@ fn counts(b: Builder) -> Reply {
 // Those that only look.
 pub fn query(k: u64, b: Builder) -> Reply {
     match k {
-        4 => Reply::One(queries::current_offset(b) as u64),
-        5 => position(queries::current_position(b)),
-        6 => depth_reply(queries::stack_depth(b)),
-        7 => truth(queries::is_dead(b)),
+        4 => Reply::One(b.current_offset() as u64),
+        5 => position(b.current_position()),
+        6 => depth_reply(b.stack_depth()),
+        7 => truth(b.is_dead()),
         _ => counts(b),
     }
 }
@@ -69,7 +68,7 @@ fn focus_of(line: &[u8], a: Args) -> Focus {
 
 // `set_location`: a range, or a range and its focus.
 fn set_location(line: &[u8], a: Args, b: Builder) -> Builder {
-    queries::set_location(b, kept::range(a.x0, a.x1), focus_of(line, a))
+    b.set_location(kept::range(a.x0, a.x1), focus_of(line, a))
 }
 
 // `dead`, or a depth.

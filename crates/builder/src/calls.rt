@@ -1,0 +1,647 @@
+// The public calls, in the order of builder.rs. Each decides before it writes.
+// The modules behind hold what they share.
+ghost use Prim.Native.Nat.{_%_};
+ghost use Rattle.builder.specs.Calls.{addConstOf, addExceptionOf, addedKept, buildOf, deadOf, kept, newOf, positionOf, regionOf, registerNameOf, registerNamesOf, withLocation};
+ghost use Rattle.builder.specs.Emit.{CallAttrKw, CallBuiltinFunction, CallBuiltinType, CallFunctionKw, LoadGlobalCallable, emitNamed, emitOf, loadOp, loadOperand, outcome, storeOp, storeOperand};
+ghost use Rattle.builder.specs.Jumps.{emitJumpOf, emitJumpToOf, jumpOutcome, targetOf, targetOutcome};
+ghost use Rattle.builder.specs.Patch.{patchJumpOf, patchOutcome};
+ghost use Rattle.op.specs.Opcodes.{RaiseUnboundLocal};
+ghost use lib.ListN.{length};
+ghost use mathlib.Core.List.{[]};
+ghost use mathlib.Core.Path.{_≡_};
+use crate::Added;
+use crate::Answer;
+use crate::Builder;
+use crate::CODE_LIMIT;
+use crate::Depth;
+use crate::EXCEPTION_CELLS;
+use crate::JumpLabel;
+use crate::JumpTarget;
+use crate::Jumped;
+use crate::Location;
+use crate::MARK_CELLS;
+use crate::Plan;
+use crate::START_CELLS;
+use crate::Targeted;
+use crate::WORD_MAX;
+use crate::aiming;
+use crate::emitting;
+use crate::entries;
+use crate::jumping;
+use crate::jumps;
+use crate::marking;
+use crate::names;
+use crate::narrowing;
+use crate::patching;
+use crate::regions;
+use crate::states;
+use crate::store;
+use code::CodeRange;
+use code::Focus;
+use code::HandlerKind;
+use op::Operand;
+use op::Refusal;
+use op::Table;
+use op::opcodes;
+
+impl Builder {
+    // A new builder, told dead, or live at a depth: its start.
+    pub fn new(told: Depth, starts: &mut [u32]) -> Answer
+        ensures { λ r. ⌜ kept r (now (starts .exit)) ≡ newOf told (now (starts .entry)) ⌝ }
+    {
+        let Depth::Live(d) = told else {
+            return Answer::Accepted(regions::fresh_at(Depth::Dead, 0));
+        };
+        if starts.len() / START_CELLS <= 0 {
+            return Answer::Refused(Refusal::Full(Table::Starts));
+        }
+        store::row2(starts, 0, d as u32);
+        Answer::Accepted(regions::fresh_at(Depth::Live(d), 1))
+    }
+
+    // Sets the source location of the instructions to come.
+    pub fn set_location(self, range: CodeRange, focus: Focus) -> Builder
+        ensures { λ r. ⌜ r ≡ withLocation self (Location.Set range focus) ⌝ }
+    {
+        let core = self.core;
+        Builder {
+            core,
+            location: Location::Set(range, focus),
+            exceptions: self.exceptions,
+            constants: self.constants,
+            names: self.names,
+            starts: self.starts,
+        }
+    }
+
+    // Emits an instruction without an operand.
+    pub fn emit(self, opcode: u8, code: &mut [u8], locations: &mut [u32]) -> Answer
+        ensures { λ r. ⌜ outcome r (now (code .exit)) (now (locations .exit)) ≡ emitOf self opcode Operand.None [] (now (code .entry)) (now (locations .entry)) ⌝ }
+    {
+        emitting::emit_with_operand(self, opcode, 0, Operand::None, code, locations)
+    }
+
+    pub fn emit_u8(self, opcode: u8, operand: u8, code: &mut [u8], locations: &mut [u32]) -> Answer
+        ensures { λ r. ⌜ outcome r (now (code .exit)) (now (locations .exit)) ≡ emitOf self opcode (Operand.U8 operand) [] (now (code .entry)) (now (locations .entry)) ⌝ }
+    {
+        emitting::emit_with_operand(self, opcode, 0, Operand::U8(operand), code, locations)
+    }
+
+    pub fn emit_i8(self, opcode: u8, operand: i8, code: &mut [u8], locations: &mut [u32]) -> Answer
+        ensures { λ r. ⌜ outcome r (now (code .exit)) (now (locations .exit)) ≡ emitOf self opcode (Operand.I8 operand) [] (now (code .entry)) (now (locations .entry)) ⌝ }
+    {
+        emitting::emit_with_operand(self, opcode, 0, Operand::I8(operand), code, locations)
+    }
+
+    // Used for UnpackEx: the counts before and after.
+    pub fn emit_u8_u8(
+        self,
+        opcode: u8,
+        operand1: u8,
+        operand2: u8,
+        code: &mut [u8],
+        locations: &mut [u32],
+    ) -> Answer
+        ensures { λ r. ⌜ outcome r (now (code .exit)) (now (locations .exit)) ≡ emitOf self opcode (Operand.U8U8 operand1 operand2) [] (now (code .entry)) (now (locations .entry)) ⌝ }
+    {
+        emitting::emit_with_operand(
+            self,
+            opcode,
+            0,
+            Operand::U8U8(operand1, operand2),
+            code,
+            locations,
+        )
+    }
+
+    pub fn emit_u16(
+        self,
+        opcode: u8,
+        operand: u16,
+        code: &mut [u8],
+        locations: &mut [u32],
+    ) -> Answer
+        ensures { λ r. ⌜ outcome r (now (code .exit)) (now (locations .exit)) ≡ emitOf self opcode (Operand.U16 operand) [] (now (code .entry)) (now (locations .entry)) ⌝ }
+    {
+        emitting::emit_with_operand(self, opcode, 0, Operand::U16(operand), code, locations)
+    }
+
+    // Used for LoadSubmodule: the attribute and the dotted path.
+    pub fn emit_u16_u16(
+        self,
+        opcode: u8,
+        operand1: u16,
+        operand2: u16,
+        code: &mut [u8],
+        locations: &mut [u32],
+    ) -> Answer
+        ensures { λ r. ⌜ outcome r (now (code .exit)) (now (locations .exit)) ≡ emitOf self opcode (Operand.U16U16 operand1 operand2) [] (now (code .entry)) (now (locations .entry)) ⌝ }
+    {
+        emitting::emit_with_operand(
+            self,
+            opcode,
+            0,
+            Operand::U16U16(operand1, operand2),
+            code,
+            locations,
+        )
+    }
+
+    // Used for MakeFunction, CallAttr, CallAttrExtended.
+    pub fn emit_u16_u8(
+        self,
+        opcode: u8,
+        operand1: u16,
+        operand2: u8,
+        code: &mut [u8],
+        locations: &mut [u32],
+    ) -> Answer
+        ensures { λ r. ⌜ outcome r (now (code .exit)) (now (locations .exit)) ≡ emitOf self opcode (Operand.U16U8 operand1 operand2) [] (now (code .entry)) (now (locations .entry)) ⌝ }
+    {
+        emitting::emit_with_operand(
+            self,
+            opcode,
+            0,
+            Operand::U16U8(operand1, operand2),
+            code,
+            locations,
+        )
+    }
+
+    // Used for MakeClosure: the function, the counts of defaults and cells.
+    pub fn emit_u16_u8_u8(
+        self,
+        opcode: u8,
+        operand1: u16,
+        operand2: u8,
+        operand3: u8,
+        code: &mut [u8],
+        locations: &mut [u32],
+    ) -> Answer
+        ensures { λ r. ⌜ outcome r (now (code .exit)) (now (locations .exit)) ≡ emitOf self opcode (Operand.U16U8U8 operand1 operand2 operand3) [] (now (code .entry)) (now (locations .entry)) ⌝ }
+    {
+        emitting::emit_with_operand(
+            self,
+            opcode,
+            0,
+            Operand::U16U8U8(operand1, operand2, operand3),
+            code,
+            locations,
+        )
+    }
+
+    pub fn emit_call_builtin_function(
+        self,
+        builtin: u8,
+        count: u8,
+        code: &mut [u8],
+        locations: &mut [u32],
+    ) -> Answer
+        ensures { λ r. ⌜ outcome r (now (code .exit)) (now (locations .exit)) ≡ emitOf self CallBuiltinFunction (Operand.U8U8 builtin count) [] (now (code .entry)) (now (locations .entry)) ⌝ }
+    {
+        self.emit_u8_u8(
+            opcodes::CALL_BUILTIN_FUNCTION,
+            builtin,
+            count,
+            code,
+            locations,
+        )
+    }
+
+    pub fn emit_call_builtin_type(
+        self,
+        builtin: u8,
+        count: u8,
+        code: &mut [u8],
+        locations: &mut [u32],
+    ) -> Answer
+        ensures { λ r. ⌜ outcome r (now (code .exit)) (now (locations .exit)) ≡ emitOf self CallBuiltinType (Operand.U8U8 builtin count) [] (now (code .entry)) (now (locations .entry)) ⌝ }
+    {
+        self.emit_u8_u8(opcodes::CALL_BUILTIN_TYPE, builtin, count, code, locations)
+    }
+
+    // Emits CallFunctionKw with its keyword names.
+    pub fn emit_call_function_kw(
+        self,
+        positional: u8,
+        kwnames: &[u16],
+        code: &mut [u8],
+        locations: &mut [u32],
+    ) -> Answer
+        ensures { λ r. ⌜ outcome r (now (code .exit)) (now (locations .exit)) ≡ emitOf self CallFunctionKw (Operand.CallKw positional (length (now (kwnames .entry)) % 256)) (now (kwnames .entry)) (now (code .entry)) (now (locations .entry)) ⌝ }
+    {
+        let names = narrowing::count_byte(kwnames.len());
+        emitting::emit_with_names(
+            self,
+            opcodes::CALL_FUNCTION_KW,
+            Operand::CallKw { positional, names },
+            kwnames,
+            code,
+            locations,
+        )
+    }
+
+    // Emits CallAttrKw with its keyword names.
+    pub fn emit_call_attr_kw(
+        self,
+        attribute: u16,
+        positional: u8,
+        kwnames: &[u16],
+        code: &mut [u8],
+        locations: &mut [u32],
+    ) -> Answer
+        ensures { λ r. ⌜ outcome r (now (code .exit)) (now (locations .exit)) ≡ emitOf self CallAttrKw (Operand.CallAttrKw attribute positional (length (now (kwnames .entry)) % 256)) (now (kwnames .entry)) (now (code .entry)) (now (locations .entry)) ⌝ }
+    {
+        let names = narrowing::count_byte(kwnames.len());
+        emitting::emit_with_names(
+            self,
+            opcodes::CALL_ATTR_KW,
+            Operand::CallAttrKw {
+                attribute,
+                positional,
+                names,
+            },
+            kwnames,
+            code,
+            locations,
+        )
+    }
+
+    // Emits a jump whose target is not known yet, and answers the label to patch later.
+    pub fn emit_jump(
+        self,
+        opcode: u8,
+        code: &mut [u8],
+        locations: &mut [u32],
+        marks: &mut [u32],
+    ) -> Jumped
+        ensures { λ r. ⌜ jumpOutcome r (now (code .exit)) (now (locations .exit)) (now (marks .exit)) ≡ emitJumpOf self opcode (now (code .entry)) (now (locations .entry)) (now (marks .entry)) ⌝ }
+    {
+        let core = self.core;
+        let location = self.location;
+        let plan = jumping::decide_jump(
+            core,
+            location,
+            opcode,
+            code.len(),
+            locations.len(),
+            marks.len(),
+        );
+        match plan {
+            Plan::Idle => Jumped::Made(self, JumpLabel::Dead),
+            Plan::Refuse(refusal) => Jumped::Refused(refusal),
+            Plan::Go(after, t, size) => {
+                let row = core.marks;
+                let next = jumping::commit_jump(
+                    core,
+                    location,
+                    opcode,
+                    size,
+                    after,
+                    t,
+                    code,
+                    locations,
+                    marks,
+                );
+                Jumped::Made(states::with_core(self, next), JumpLabel::Row(row))
+            }
+        }
+    }
+
+    // Has a label's jump go to where the code now ends. Dead code is live again at the label's depth.
+    pub fn patch_jump(self, label: JumpLabel, code: &mut [u8], marks: &mut [u32]) -> Answer
+        ensures { λ r. ⌜ patchOutcome r (now (code .exit)) (now (marks .exit)) ≡ patchJumpOf self label (now (code .entry)) (now (marks .entry)) ⌝ }
+    {
+        let core = self.core;
+        if !marking::counts_sound(core, code.len(), marks.len()) {
+            return Answer::Refused(Refusal::Unsound);
+        }
+        let JumpLabel::Row(i) = label else {
+            return Answer::Accepted(self);
+        };
+        let mark = marking::mark_in(core.marks, marks, i);
+        let plan = patching::decide_mark(mark, core);
+        match plan {
+            Plan::Idle => Answer::Accepted(self),
+            Plan::Refuse(refusal) => Answer::Refused(refusal),
+            Plan::Go(after, w, offset) => {
+                let next = patching::commit_patch(core, i, offset, w, after, code, marks);
+                Answer::Accepted(states::with_core(self, next))
+            }
+        }
+    }
+
+    // Emits a jump to a known target. In dead code it does nothing, whatever the target.
+    pub fn emit_jump_to(
+        self,
+        opcode: u8,
+        target: JumpTarget,
+        code: &mut [u8],
+        locations: &mut [u32],
+        marks: &[u32],
+    ) -> Answer
+        ensures { λ r. ⌜ outcome r (now (code .exit)) (now (locations .exit)) ≡ emitJumpToOf self opcode target (now (code .entry)) (now (locations .entry)) (now (marks .entry)) ⌝ }
+    {
+        let core = self.core;
+        let location = self.location;
+        let JumpTarget::Row(row) = target else {
+            let refused = aiming::jump_nowhere(core, location, opcode, code, locations, marks);
+            return states::answer_by(self, refused);
+        };
+        let answer = aiming::jump_to_core(core, location, opcode, row, code, locations, marks);
+        states::answer_by(self, answer)
+    }
+
+    // The offset of the next instruction.
+    pub fn current_offset(self) -> usize
+        ensures { λ r. ⌜ r ≡ self .core .code ⌝ }
+    {
+        let core = self.core;
+        core.code
+    }
+
+    // The source range here, for diagnostics.
+    pub fn current_position(self) -> CodeRange
+        ensures { λ r. ⌜ r ≡ positionOf (self .location) ⌝ }
+    {
+        let location = self.location;
+        match location {
+            Location::Unset => CodeRange { start: 0, end: 0 },
+            Location::Set(range, _) => range,
+        }
+    }
+
+    // Answers the place and the depth here as a target. In dead code there is none.
+    pub fn current_jump_target(self, marks: &mut [u32]) -> Targeted
+        ensures { λ r. ⌜ targetOutcome r (now (marks .exit)) ≡ targetOf self (now (marks .entry)) ⌝ }
+    {
+        let core = self.core;
+        if CODE_LIMIT < core.code {
+            return Targeted::Refused(Refusal::Unsound);
+        }
+        if marks.len() / MARK_CELLS < core.marks {
+            return Targeted::Refused(Refusal::Unsound);
+        }
+        let depth = core.depth;
+        let Depth::Live(d) = depth else {
+            return Targeted::Made(self, JumpTarget::Dead);
+        };
+        jumps::mark_target(self, d, marks)
+    }
+
+    // Names the slots 0, 1, .. in one pass, before any other is named.
+    pub fn register_local_names(self, names: &[u32], table: &mut [u64]) -> Answer
+        ensures { λ r. ⌜ kept r (now (table .exit)) ≡ registerNamesOf self (now (names .entry)) (now (table .entry)) ⌝ }
+    {
+        let core = self.core;
+        let held = self.names;
+        if CODE_LIMIT < core.code {
+            return Answer::Refused(Refusal::Unsound);
+        }
+        if table.len() < held {
+            return Answer::Refused(Refusal::Unsound);
+        }
+        if held != 0 {
+            return Answer::Refused(Refusal::NamesHeld);
+        }
+        if table.len() < names.len() {
+            return Answer::Refused(Refusal::Full(Table::Names));
+        }
+        names::fill_names(table, names);
+        Answer::Accepted(names::with_names(self, names.len()))
+    }
+
+    // Names a slot, where it has no name yet.
+    pub fn register_local_name(self, slot: u16, name: u32, table: &mut [u64]) -> Answer
+        ensures { λ r. ⌜ kept r (now (table .exit)) ≡ registerNameOf self slot name (now (table .entry)) ⌝ }
+    {
+        let core = self.core;
+        let held = self.names;
+        if CODE_LIMIT < core.code {
+            return Answer::Refused(Refusal::Unsound);
+        }
+        if table.len() < held {
+            return Answer::Refused(Refusal::Unsound);
+        }
+        let at = slot as usize;
+        if at < held {
+            table[at] = names::named_cell(table[at], name);
+            return Answer::Accepted(self);
+        }
+        if table.len() <= at {
+            return Answer::Refused(Refusal::Full(Table::Names));
+        }
+        names::extend(&mut table[held..], at - held, name);
+        Answer::Accepted(names::with_names(self, at + 1))
+    }
+
+    // Emits RaiseUnboundLocal with the name that the error reports.
+    pub fn emit_raise_unbound_local(
+        self,
+        name: u32,
+        code: &mut [u8],
+        locations: &mut [u32],
+    ) -> Answer
+        ensures { λ r. ⌜ outcome r (now (code .exit)) (now (locations .exit)) ≡ emitNamed self RaiseUnboundLocal name (Operand.U16 (name % 65536)) [] (now (code .entry)) (now (locations .entry)) ⌝ }
+    {
+        let word = narrowing::name_word(name);
+        emitting::emit_with_operand(
+            self,
+            opcodes::RAISE_UNBOUND_LOCAL,
+            name,
+            Operand::U16(word),
+            code,
+            locations,
+        )
+    }
+
+    // Emits the shortest load of a slot: slots 0 to 3 have opcodes of their own.
+    pub fn emit_load_local(self, slot: u16, code: &mut [u8], locations: &mut [u32]) -> Answer
+        ensures { λ r. ⌜ outcome r (now (code .exit)) (now (locations .exit)) ≡ emitOf self (loadOp slot) (loadOperand slot) [] (now (code .entry)) (now (locations .entry)) ⌝ }
+    {
+        if slot <= 3 {
+            return self.emit(opcodes::LOAD_LOCAL0 + slot as u8, code, locations);
+        }
+        if slot <= 255 {
+            return self.emit_u8(opcodes::LOAD_LOCAL, slot as u8, code, locations);
+        }
+        self.emit_u16(opcodes::LOAD_LOCAL_W, slot, code, locations)
+    }
+
+    // Emits LoadGlobalCallable with its slot and name.
+    pub fn emit_load_global_callable(
+        self,
+        slot: u16,
+        name: u32,
+        code: &mut [u8],
+        locations: &mut [u32],
+    ) -> Answer
+        ensures { λ r. ⌜ outcome r (now (code .exit)) (now (locations .exit)) ≡ emitNamed self LoadGlobalCallable name (Operand.U16U16 slot (name % 65536)) [] (now (code .entry)) (now (locations .entry)) ⌝ }
+    {
+        let word = narrowing::name_word(name);
+        emitting::emit_with_operand(
+            self,
+            opcodes::LOAD_GLOBAL_CALLABLE,
+            name,
+            Operand::U16U16(slot, word),
+            code,
+            locations,
+        )
+    }
+
+    // Emits LoadName, StoreName or DeleteName with its slot, name and flags.
+    pub fn emit_name_op(
+        self,
+        opcode: u8,
+        slot: u16,
+        name: u32,
+        flags: u8,
+        code: &mut [u8],
+        locations: &mut [u32],
+    ) -> Answer
+        ensures { λ r. ⌜ outcome r (now (code .exit)) (now (locations .exit)) ≡ emitNamed self opcode name (Operand.U16U16U8 slot (name % 65536) flags) [] (now (code .entry)) (now (locations .entry)) ⌝ }
+    {
+        let word = narrowing::name_word(name);
+        emitting::emit_with_operand(
+            self,
+            opcode,
+            name,
+            Operand::U16U16U8(slot, word, flags),
+            code,
+            locations,
+        )
+    }
+
+    // Emits the shorter store of a slot. Slots 0 to 3 have no opcodes of their own here.
+    pub fn emit_store_local(self, slot: u16, code: &mut [u8], locations: &mut [u32]) -> Answer
+        ensures { λ r. ⌜ outcome r (now (code .exit)) (now (locations .exit)) ≡ emitOf self (storeOp slot) (storeOperand slot) [] (now (code .entry)) (now (locations .entry)) ⌝ }
+    {
+        if slot <= 255 {
+            return self.emit_u8(opcodes::STORE_LOCAL, slot as u8, code, locations);
+        }
+        self.emit_u16(opcodes::STORE_LOCAL_W, slot, code, locations)
+    }
+
+    // Adds a constant, and answers its index.
+    pub fn add_const(self, value: u64, constants: &mut [u64]) -> Added
+        ensures { λ r. ⌜ addedKept r (now (constants .exit)) ≡ addConstOf self value (now (constants .entry)) ⌝ }
+    {
+        let core = self.core;
+        let row = self.constants;
+        if CODE_LIMIT < core.code {
+            return Added::Refused(Refusal::Unsound);
+        }
+        if constants.len() < row {
+            return Added::Refused(Refusal::Unsound);
+        }
+        if (WORD_MAX as usize) < row {
+            return Added::Refused(Refusal::TooManyConstants);
+        }
+        if constants.len() <= row {
+            return Added::Refused(Refusal::Full(Table::Constants));
+        }
+        store::row1(&mut constants[row..], value);
+        Added::Made(entries::with_constants(self, row + 1), row as u16)
+    }
+
+    // Adds an exception handler. Innermost first, for nested blocks.
+    pub fn add_exception_entry(
+        self,
+        start: usize,
+        end: usize,
+        handler: usize,
+        stack_depth: u16,
+        exception_stack_count: u16,
+        kind: HandlerKind,
+        exceptions: &mut [u32],
+    ) -> Answer
+        ensures { λ r. ⌜ kept r (now (exceptions .exit)) ≡ addExceptionOf self start end handler «stack_depth» «exception_stack_count» kind (now (exceptions .entry)) ⌝ }
+    {
+        let core = self.core;
+        let row = self.exceptions;
+        if CODE_LIMIT < core.code {
+            return Answer::Refused(Refusal::Unsound);
+        }
+        if exceptions.len() / EXCEPTION_CELLS < row {
+            return Answer::Refused(Refusal::Unsound);
+        }
+        if !entries::offsets_fit(start, end, handler) {
+            return Answer::Refused(Refusal::TooLarge);
+        }
+        if exceptions.len() / EXCEPTION_CELLS <= row {
+            return Answer::Refused(Refusal::Full(Table::Exceptions));
+        }
+        let base = row * EXCEPTION_CELLS;
+        store::row6(
+            &mut exceptions[base..],
+            start as u32,
+            end as u32,
+            handler as u32,
+            stack_depth as u32,
+            exception_stack_count as u32,
+            entries::kind_number(kind),
+        );
+        Answer::Accepted(entries::with_exceptions(self, row + 1))
+    }
+
+    // The depth here, none in dead code.
+    pub fn stack_depth(self) -> Depth
+        ensures { λ r. ⌜ r ≡ self .core .depth ⌝ }
+    {
+        let core = self.core;
+        let depth = core.depth;
+        depth
+    }
+
+    // Whether the code is dead.
+    pub fn is_dead(self) -> bool
+        ensures { λ r. ⌜ r ≡ deadOf (self .core .depth) ⌝ }
+    {
+        let core = self.core;
+        let depth = core.depth;
+        match depth {
+            Depth::Dead => true,
+            Depth::Live(_) => false,
+        }
+    }
+
+    // Finishes the body: no label is open, and slots without a name get `fill`.
+    pub fn build(self, fill: u32, names: &mut [u64], marks: &[u32]) -> Answer
+        ensures { λ r. ⌜ kept r (now (names .exit)) ≡ buildOf self fill (now (names .entry)) (now (marks .entry)) ⌝ }
+    {
+        let core = self.core;
+        let held = self.names;
+        if CODE_LIMIT < core.code {
+            return Answer::Refused(Refusal::Unsound);
+        }
+        if names.len() < held {
+            return Answer::Refused(Refusal::Unsound);
+        }
+        if marks.len() / MARK_CELLS < core.marks {
+            return Answer::Refused(Refusal::Unsound);
+        }
+        if names::any_open(core.marks, marks) {
+            return Answer::Refused(Refusal::OpenLabel);
+        }
+        names::fill_absent(&mut names[..held], fill);
+        Answer::Accepted(self)
+    }
+
+    // Opens a region of live code at a depth that comes from outside: an exception handler's, or a body's first.
+    pub fn new_code_region(self, depth: u16, starts: &mut [u32]) -> Answer
+        ensures { λ r. ⌜ kept r (now (starts .exit)) ≡ regionOf self depth (now (starts .entry)) ⌝ }
+    {
+        let core = self.core;
+        if CODE_LIMIT < core.code {
+            return Answer::Refused(Refusal::Unsound);
+        }
+        if starts.len() / START_CELLS < self.starts {
+            return Answer::Refused(Refusal::Unsound);
+        }
+        let here = core.depth;
+        let Depth::Dead = here else {
+            return Answer::Refused(Refusal::RegionWhileLive);
+        };
+        regions::store_start(self, depth, starts)
+    }
+}
