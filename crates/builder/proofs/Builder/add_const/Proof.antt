@@ -25,11 +25,21 @@ cast-if3 c = search needs
 
 returns-3 : tie.Need-returns-3
 unfolding addConstOf
-returns-3 c = simp (le-leb _ _ (c .before .before .if1 .left), le-leb _ _ (c .before .if2 .left), lt-leb _ _ (c .if3 .taken))
+returns-3 c =
+    let else1 = c .before .before in
+    simp (le-leb _ _ (else1 .if1 .left), le-leb _ _ (c .before .if2 .left), lt-leb _ _ (c .if3 .taken))
 
 returns-4 : tie.Need-returns-4
 unfolding addConstOf
-returns-4 c = simp (le-leb _ _ (c .before .before .before .if1 .left), le-leb _ _ (c .before .before .if2 .left), le-leb _ _ (c .before .if3 .left), le-ltb _ _ (c .if4 .taken))
+returns-4 c =
+    let else2 = c .before .before in
+    let else1 = else2 .before in
+    simp (
+      le-leb _ _ (else1 .if1 .left),
+      le-leb _ _ (else2 .if2 .left),
+      le-leb _ _ (c .before .if3 .left),
+      le-ltb _ _ (c .if4 .taken),
+    )
 
 mul-row1 : tie.Need-mul-row1
 mul-row1 c = search needs
@@ -61,9 +71,23 @@ same-length c = search needs
 returns-5 : tie.Need-returns-5
 unfolding addConstOf
 returns-5 c =
-    let a = c .before .before .before .before .before .before .before .before .before .before .before .before .args in
-    let h : a .self .constants + 1 ≤ length (a .constants .now) = omega (arith, c .before .before .before .before .before .if4 .left) in
-    rw (le-leb _ _ (c .before .before .before .before .before .before .before .before .if1 .left), le-leb _ _ (c .before .before .before .before .before .before .before .if2 .left), le-leb _ _ (c .before .before .before .before .before .before .if3 .left), lt-ltb _ _ (c .before .before .before .before .before .if4 .left), c .with-constants .ensures, c .before .before .before .row1 .ensures, put-lent (a .self .constants) (a .value ∷ []) (a .constants .now) h) refl
+    let after-row1 = c .before .before .before in
+    let else4 = after-row1 .before .before in
+    let else3 = else4 .before in
+    let else2 = else3 .before in
+    let else1 = else2 .before in
+    let start = else1 .before .before .before .before in
+    let a = start .args in
+    let h : a .self .constants + 1 ≤ length (a .constants .now) = omega (arith, else4 .if4 .left) in
+    rw (
+      le-leb _ _ (else1 .if1 .left),
+      le-leb _ _ (else2 .if2 .left),
+      le-leb _ _ (else3 .if3 .left),
+      lt-ltb _ _ (else4 .if4 .left),
+      c .with-constants .ensures,
+      after-row1 .row1 .ensures,
+      put-lent (a .self .constants) (a .value ∷ []) (a .constants .now) h,
+    ) refl
 
 pub add-const-spec : {M : Type 1} → statement M
 add-const-spec =

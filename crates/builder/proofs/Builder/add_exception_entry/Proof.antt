@@ -37,11 +37,27 @@ offsets-fit-requires c κs = search needs
 
 returns-3 : tie.Need-returns-3
 unfolding addExceptionOf
-returns-3 c = simp (le-leb _ _ (c .before .before .before .if1 .left), le-leb _ _ (c .before .before .if2 .left), sym (c .before .offsets-fit .ensures) ∙ not-true _ (c .if3 .taken))
+returns-3 c =
+    let else2 = c .before .before in
+    let else1 = else2 .before in
+    simp (
+      le-leb _ _ (else1 .if1 .left),
+      le-leb _ _ (else2 .if2 .left),
+      sym (c .before .offsets-fit .ensures) ∙ not-true _ (c .if3 .taken),
+    )
 
 returns-4 : tie.Need-returns-4
 unfolding addExceptionOf
-returns-4 c = simp (le-leb _ _ (c .before .before .before .before .if1 .left), le-leb _ _ (c .before .before .before .if2 .left), sym (c .before .before .offsets-fit .ensures) ∙ not-false _ (c .before .if3 .left), le-ltb _ _ (c .if4 .taken))
+returns-4 c =
+    let after-offsets-fit = c .before .before in
+    let else2 = after-offsets-fit .before in
+    let else1 = else2 .before in
+    simp (
+      le-leb _ _ (else1 .if1 .left),
+      le-leb _ _ (else2 .if2 .left),
+      sym (after-offsets-fit .offsets-fit .ensures) ∙ not-false _ (c .before .if3 .left),
+      le-ltb _ _ (c .if4 .taken),
+    )
 
 mul-base : tie.Need-mul-base
 mul-base c = search needs
@@ -59,13 +75,22 @@ part-row6-end : tie.Need-part-row6-end
 part-row6-end c = search needs
 
 cast-row6 : tie.Need-cast-row6
-cast-row6 c = omega (arith, small _ _ _ (sym (c .before .before .before .offsets-fit .ensures) ∙ not-false _ (c .before .before .if3 .left)))
+cast-row6 c =
+    let else3 = c .before .before in
+    let after-offsets-fit = else3 .before in
+    omega (arith, small _ _ _ (sym (after-offsets-fit .offsets-fit .ensures) ∙ not-false _ (else3 .if3 .left)))
 
 cast-row6-2 : tie.Need-cast-row6-2
-cast-row6-2 c = omega (arith, small _ _ _ (sym (c .before .before .before .offsets-fit .ensures) ∙ not-false _ (c .before .before .if3 .left)))
+cast-row6-2 c =
+    let else3 = c .before .before in
+    let after-offsets-fit = else3 .before in
+    omega (arith, small _ _ _ (sym (after-offsets-fit .offsets-fit .ensures) ∙ not-false _ (else3 .if3 .left)))
 
 cast-row6-3 : tie.Need-cast-row6-3
-cast-row6-3 c = omega (arith, small _ _ _ (sym (c .before .before .before .offsets-fit .ensures) ∙ not-false _ (c .before .before .if3 .left)))
+cast-row6-3 c =
+    let else3 = c .before .before in
+    let after-offsets-fit = else3 .before in
+    omega (arith, small _ _ _ (sym (after-offsets-fit .offsets-fit .ensures) ∙ not-false _ (else3 .if3 .left)))
 
 kind-number-requires : tie.Need-kind-number-requires
 kind-number-requires c κs = search needs
@@ -85,10 +110,27 @@ same-length c = search needs
 returns-5 : tie.Need-returns-5
 unfolding addExceptionOf
 returns-5 c =
-    let a = c .before .before .before .before .before .before .before .before .before .before .before .before .before .before .args in
+    let after-row6 = c .before .before .before in
+    let after-kind-number = after-row6 .before in
+    let else4 = after-kind-number .before .before in
+    let else3 = else4 .before in
+    let after-offsets-fit = else3 .before in
+    let else2 = after-offsets-fit .before in
+    let else1 = else2 .before in
+    let start = else1 .before .before .before .before in
+    let a = start .args in
     let row = exceptionRow (a .start) (a .end) (a .handler) (a .stack-depth) (a .exception-stack-count) (a .kind) in
-    let h : a .self .exceptions * exceptionCells + 6 ≤ length (a .exceptions .now) = omega (arith, c .before .before .before .before .before .before .if4 .left) in
-    rw (le-leb _ _ (c .before .before .before .before .before .before .before .before .before .before .if1 .left), le-leb _ _ (c .before .before .before .before .before .before .before .before .before .if2 .left), sym (c .before .before .before .before .before .before .before .before .offsets-fit .ensures) ∙ not-false _ (c .before .before .before .before .before .before .before .if3 .left), lt-ltb _ _ (c .before .before .before .before .before .before .if4 .left), c .with-exceptions .ensures, c .before .before .before .row6 .ensures, c .before .before .before .before .kind-number .ensures, put-lent (a .self .exceptions * exceptionCells) row (a .exceptions .now) h) refl
+    let h : a .self .exceptions * exceptionCells + 6 ≤ length (a .exceptions .now) = omega (arith, else4 .if4 .left) in
+    rw (
+      le-leb _ _ (else1 .if1 .left),
+      le-leb _ _ (else2 .if2 .left),
+      sym (after-offsets-fit .offsets-fit .ensures) ∙ not-false _ (else3 .if3 .left),
+      lt-ltb _ _ (else4 .if4 .left),
+      c .with-exceptions .ensures,
+      after-row6 .row6 .ensures,
+      after-kind-number .kind-number .ensures,
+      put-lent (a .self .exceptions * exceptionCells) row (a .exceptions .now) h,
+    ) refl
 
 pub add-exception-entry-spec : {M : Type 1} → statement M
 add-exception-entry-spec =

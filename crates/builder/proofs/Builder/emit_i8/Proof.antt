@@ -22,8 +22,12 @@ same-length-2 c = search needs
 
 returns : tie.Need-returns
 returns c =
-    let a = c .before .before .before .before .before .before .before .before .before .args in
-    c .before .before .before .before .emit-with-operand .ensures ∙ ap (λ (z : ℤ). emitNamed (a .self) (a .opcode) 0 (I8 z) [] (a .code .now) (a .locations .now)) (toZ-ofZ {w = w8} (c .before .before .before .before .before .before .before .before .before .fits .operand))
+    let after-emit-with-operand = c .before .before .before .before in
+    let start = after-emit-with-operand .before .before .before .before .before in
+    let a = start .args in
+    after-emit-with-operand .emit-with-operand .ensures
+    ∙ ap (λ (z : ℤ). emitNamed (a .self) (a .opcode) 0 (I8 z) [] (a .code .now) (a .locations .now))
+    (toZ-ofZ {w = w8} (start .fits .operand))
 
 pub emit-i8-spec : {M : Type 1} → statement M
 emit-i8-spec = tie.close (tie.spec emit-with-operand-requires same-length same-length-2 returns)

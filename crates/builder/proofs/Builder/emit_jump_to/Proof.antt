@@ -27,7 +27,11 @@ same-length-2 c = search needs
 
 returns : tie.Need-returns
 unfolding emitJumpToOf
-returns c = rw (c .answer-by .ensures, c .before .before .before .before .enum-told .given .1) (ap (outcomeBy (c .before .before .before .before .before .before .before .before .before .before .args .self)) (c .before .jump-nowhere .ensures))
+returns c =
+    let after-enum-told = c .before .before .before .before in
+    let start = after-enum-told .before .before .before .before .before .before in
+    rw (c .answer-by .ensures, after-enum-told .enum-told .given .1)
+    (ap (outcomeBy (start .args .self)) (c .before .jump-nowhere .ensures))
 
 jump-to-core-requires : tie.Need-jump-to-core-requires
 jump-to-core-requires c κs = search needs
@@ -43,7 +47,12 @@ same-length-4 c = search needs
 
 returns-2 : tie.Need-returns-2
 unfolding emitJumpToOf
-returns-2 c = rw (c .answer-by2 .ensures, c .before .before .before .before .before .before .before .before .before .target .given .1) (ap (outcomeBy (c .before .before .before .before .before .before .before .before .before .before .before .before .before .before .before .args .self)) (c .before .before .before .before .before .jump-to-core .ensures))
+returns-2 c =
+    let after-jump-to-core = c .before .before .before .before .before in
+    let after-target = after-jump-to-core .before .before .before .before in
+    let start = after-target .before .before .before .before .before .before in
+    rw (c .answer-by2 .ensures, after-target .target .given .1)
+    (ap (outcomeBy (start .args .self)) (after-jump-to-core .jump-to-core .ensures))
 
 pub emit-jump-to-spec : {M : Type 1} → statement M
 emit-jump-to-spec =

@@ -39,11 +39,28 @@ same-length c = search needs
 
 returns-3 : tie.Need-returns-3
 unfolding registerNameOf
-returns-3 c = rw (le-leb _ _ (c .before .before .before .before .if1 .left), le-leb _ _ (c .before .before .before .if2 .left), lt-ltb _ _ (c .before .before .if3 .taken), c .named-cell .ensures) refl
+returns-3 c =
+    let then3 = c .before .before in
+    let else2 = then3 .before in
+    let else1 = else2 .before in
+    rw (
+      le-leb _ _ (else1 .if1 .left),
+      le-leb _ _ (else2 .if2 .left),
+      lt-ltb _ _ (then3 .if3 .taken),
+      c .named-cell .ensures,
+    ) refl
 
 returns-4 : tie.Need-returns-4
 unfolding registerNameOf
-returns-4 c = simp (le-leb _ _ (c .before .before .before .if1 .left), le-leb _ _ (c .before .before .if2 .left), le-ltb _ _ (c .before .if3 .left), le-ltb _ _ (c .if4 .taken))
+returns-4 c =
+    let else2 = c .before .before in
+    let else1 = else2 .before in
+    simp (
+      le-leb _ _ (else1 .if1 .left),
+      le-leb _ _ (else2 .if2 .left),
+      le-ltb _ _ (c .before .if3 .left),
+      le-ltb _ _ (c .if4 .taken),
+    )
 
 mul-extend : tie.Need-mul-extend
 mul-extend c = search needs
@@ -72,9 +89,24 @@ same-length-2 c = search needs
 returns-5 : tie.Need-returns-5
 unfolding registerNameOf
 returns-5 c =
-    let a = c .before .before .before .before .before .before .before .before .before .before .before .before .args in
-    let h = extension-fits (a .slot) (a .self .names) (a .name) (length (a .table .now)) (c .before .before .before .before .before .before .if3 .left) (c .before .before .before .before .before .if4 .left) in
-    rw (le-leb _ _ (c .before .before .before .before .before .before .before .before .if1 .left), le-leb _ _ (c .before .before .before .before .before .before .before .if2 .left), le-ltb _ _ (c .before .before .before .before .before .before .if3 .left), lt-ltb _ _ (c .before .before .before .before .before .if4 .left), c .with-names .ensures, c .before .before .before .extend .ensures, put-lent (a .self .names) (extension (a .slot - a .self .names) (a .name)) (a .table .now) h) refl
+    let after-extend = c .before .before .before in
+    let else4 = after-extend .before .before in
+    let else3 = else4 .before in
+    let else2 = else3 .before in
+    let else1 = else2 .before in
+    let start = else1 .before .before .before .before in
+    let a = start .args in
+    let h = extension-fits (a .slot) (a .self .names) (a .name) (length (a .table .now)) (else3 .if3 .left)
+    (else4 .if4 .left) in
+    rw (
+      le-leb _ _ (else1 .if1 .left),
+      le-leb _ _ (else2 .if2 .left),
+      le-ltb _ _ (else3 .if3 .left),
+      lt-ltb _ _ (else4 .if4 .left),
+      c .with-names .ensures,
+      after-extend .extend .ensures,
+      put-lent (a .self .names) (extension (a .slot - a .self .names) (a .name)) (a .table .now) h,
+    ) refl
 
 pub register-local-name-spec : {M : Type 1} → statement M
 register-local-name-spec =

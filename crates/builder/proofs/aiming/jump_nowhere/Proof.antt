@@ -17,11 +17,21 @@ returns c = simp (sym (c .before .sound .ensures) ∙ not-true _ (c .if1 .taken)
 
 returns-2 : tie.Need-returns-2
 unfolding jumpToCore toPlanOf
-returns-2 c = simp (sym (c .before .before .before .sound .ensures) ∙ not-false _ (c .before .before .if1 .left), lt-leb _ _ (c .if2 .taken))
+returns-2 c =
+    let else1 = c .before .before in
+    let after-sound = else1 .before in
+    simp (sym (after-sound .sound .ensures) ∙ not-false _ (else1 .if1 .left), lt-leb _ _ (c .if2 .taken))
 
 returns-3 : tie.Need-returns-3
 unfolding jumpToCore toPlanOf known
-returns-3 c = simp (sym (c .before .before .before .before .sound .ensures) ∙ not-false _ (c .before .before .before .if1 .left), le-leb _ _ (c .before .if2 .left), lt-leb _ _ (c .if3 .taken))
+returns-3 c =
+    let else1 = c .before .before .before in
+    let after-sound = else1 .before in
+    simp (
+      sym (after-sound .sound .ensures) ∙ not-false _ (else1 .if1 .left),
+      le-leb _ _ (c .before .if2 .left),
+      lt-leb _ _ (c .if3 .taken),
+    )
 
 enum-known-depth : tie.Need-enum-known-depth
 enum-known-depth c = search needs
@@ -31,7 +41,17 @@ enum-told c = search needs
 
 returns-4 : tie.Need-returns-4
 unfolding jumpToCore toPlanOf known
-returns-4 c = simp (sym (c .before .before .before .before .before .before .sound .ensures) ∙ not-false _ (c .before .before .before .before .before .if1 .left), le-leb _ _ (c .before .before .before .if2 .left), le-leb _ _ (c .before .before .if3 .left), c .enum-told .given .1)
+returns-4 c =
+    let else3 = c .before .before in
+    let else2 = else3 .before in
+    let else1 = else2 .before .before in
+    let after-sound = else1 .before in
+    simp (
+      sym (after-sound .sound .ensures) ∙ not-false _ (else1 .if1 .left),
+      le-leb _ _ (else2 .if2 .left),
+      le-leb _ _ (else3 .if3 .left),
+      c .enum-told .given .1,
+    )
 
 taken-requires : tie.Need-taken-requires
 taken-requires c κs = search needs
@@ -44,11 +64,37 @@ enum-told-2 c = search needs
 
 returns-5 : tie.Need-returns-5
 unfolding jumpToCore toPlanOf known toLiveOf
-returns-5 c = simp (sym (c .before .before .before .before .before .before .before .before .before .before .before .sound .ensures) ∙ not-false _ (c .before .before .before .before .before .before .before .before .before .before .if1 .left), le-leb _ _ (c .before .before .before .before .before .before .before .before .if2 .left), le-leb _ _ (c .before .before .before .before .before .before .before .if3 .left), c .before .before .before .before .before .depth .given .1, sym (c .before .before .before .taken .ensures) ∙ c .before .taken2 .given .1)
+returns-5 c =
+    let after-taken = c .before .before .before in
+    let after-depth = after-taken .before .before in
+    let else3 = after-depth .before .before in
+    let else2 = else3 .before in
+    let else1 = else2 .before .before in
+    let after-sound = else1 .before in
+    simp (
+      sym (after-sound .sound .ensures) ∙ not-false _ (else1 .if1 .left),
+      le-leb _ _ (else2 .if2 .left),
+      le-leb _ _ (else3 .if3 .left),
+      after-depth .depth .given .1,
+      sym (after-taken .taken .ensures) ∙ c .before .taken2 .given .1,
+    )
 
 returns-6 : tie.Need-returns-6
 unfolding jumpToCore toPlanOf known toLiveOf
-returns-6 c = simp (sym (c .before .before .before .before .before .before .before .before .before .before .sound .ensures) ∙ not-false _ (c .before .before .before .before .before .before .before .before .before .if1 .left), le-leb _ _ (c .before .before .before .before .before .before .before .if2 .left), le-leb _ _ (c .before .before .before .before .before .before .if3 .left), c .before .before .before .before .depth .given .1, sym (c .before .before .taken .ensures) ∙ c .enum-told2 .given .1)
+returns-6 c =
+    let after-taken = c .before .before in
+    let after-depth = after-taken .before .before in
+    let else3 = after-depth .before .before in
+    let else2 = else3 .before in
+    let else1 = else2 .before .before in
+    let after-sound = else1 .before in
+    simp (
+      sym (after-sound .sound .ensures) ∙ not-false _ (else1 .if1 .left),
+      le-leb _ _ (else2 .if2 .left),
+      le-leb _ _ (else3 .if3 .left),
+      after-depth .depth .given .1,
+      sym (after-taken .taken .ensures) ∙ c .enum-told2 .given .1,
+    )
 
 pub jump-nowhere-spec : {M : Type 1} → statement M
 jump-nowhere-spec =
