@@ -11,11 +11,10 @@ use Rattle.op.specs.Opcodes.{known, rowOf}
 use Rattle.op.specs.Shapes.{shapeOf, shapeIn}
 use Rattle.op.specs.declared.Operand.{Operand}
 use Rattle.op.specs.declared.Refusal.the-variants.{UnknownOpcode, TooManyKeywords}
-use Rattle.code.specs.Encode.{encode, writtenOf, filled}
+use Rattle.code.specs.Encode.{encode, writtenOf, filled, SignsFit}
 use Rattle.code.specs.declared.Written.{Written}
 use Rattle.code.specs.declared.Written.the-variants as W
 use Rattle.code.specs.Decode.{decode}
-use Rattle.code.proofs.Inverse.{SignsFit}
 use Rattle.code.proofs.Writing.{written-unknown, written-many, written-decodes}
 use Rattle.api.specs.Answers.{refused}
 use Rattle.api.specs.Steps.{unwritten, writtenAnswer, WritesGiven, instruction, stepTold}

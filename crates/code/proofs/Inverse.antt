@@ -18,7 +18,7 @@ use Rattle.op.specs.declared.Shaped.the-variants as P
 use Rattle.code.specs.declared.Step.the-variants.{Instr}
 use Rattle.code.specs.Bytes.{wordAt, namesBytes, wordsIn, signed, unsigned}
 use Rattle.code.specs.Decode.{operandIn, namesIn, decode, namesAt}
-use Rattle.code.specs.Encode.{operandBytes, encode}
+use Rattle.code.specs.Encode.{operandBytes, encode, SignsFit, Formed}
 use Rattle.code.proofs.Twos.{signed-unsigned, unsigned-signed}
 use Rattle.code.proofs.Decoding.{Decoded, decoded, decode-whole, names-part}
 use Rattle.code.proofs.Ranges.{word-small}
@@ -72,21 +72,6 @@ names-words (suc n) (a ∷ (b ∷ xs)) e h =
 
 -- what is written decodes
 
--- an operand's signed numbers are in their ranges
-abbrev pub SignsFit : Operand → Type 0
-SignsFit O.None = Unit {0}
-SignsFit (O.U8 a) = Unit {0}
-SignsFit (O.I8 z) = mag z < 128
-SignsFit (O.U16 a) = Unit {0}
-SignsFit (O.Offset z) = mag z < 32768
-SignsFit (O.U8U8 a b) = Unit {0}
-SignsFit (O.U16U8 a b) = Unit {0}
-SignsFit (O.U16U16 a b) = Unit {0}
-SignsFit (O.U16U8U8 a b c) = Unit {0}
-SignsFit (O.CallKw positional names) = Unit {0}
-SignsFit (O.CallAttrKw attribute positional names) = Unit {0}
-SignsFit (O.U16U16U8 a b c) = Unit {0}
-
 word : (a : ℕ) → a % 256 + 256 * (a / 256) ≡ a
 word a = omega arith
 
@@ -104,12 +89,6 @@ read-back k (O.U16U8U8 a b c) t r = cc (word a)
 read-back k (O.CallKw positional names) t r = refl
 read-back k (O.CallAttrKw attribute positional names) t r = cc (word attribute)
 read-back k (O.U16U16U8 a b c) t r = cc (word a, word b)
-
--- an instruction that is well formed: the operand has the opcode's shape, fits, and counts the names
-pub record Formed (k : ℕ) (o : Operand) (names : List ℕ) : Type 0 where
-  pub shape : shapeOf k ≡ P.Is (operandShape o)
-  pub signs : SignsFit o
-  pub count : namesIn o ≡ length names
 
 module _ (k : ℕ) (o : Operand) (names rest : List ℕ) (f : Formed k o names) where
   -- whatever follows

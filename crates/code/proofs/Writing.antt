@@ -22,8 +22,8 @@ use Rattle.code.specs.declared.Written.{Written}
 use Rattle.code.specs.declared.Written.the-variants.{Size, Refused}
 use Rattle.code.specs.Bytes.{namesBytes, front}
 use Rattle.code.specs.Decode.{namesIn, decode, namesAt}
-use Rattle.code.specs.Encode.{operandBytes, encode, unless, writtenBy, writtenOf, filled, Writes, Writable}
-use Rattle.code.proofs.Inverse.{length-encode, SignsFit, Formed, decode-encode, names-encode}
+use Rattle.code.specs.Encode.{operandBytes, encode, unless, writtenBy, writtenOf, filled, Writes, Writable, SignsFit, Formed}
+use Rattle.code.proofs.Inverse.{length-encode, decode-encode, names-encode}
 
 -- a shape's number says which it is
 shape-at : ℕ → Shape

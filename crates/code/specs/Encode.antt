@@ -3,9 +3,10 @@
 use mathlib.Core.Path.{_≡_}
 use mathlib.Core.Bool.{Bool}
 use mathlib.Core.List.{List, [], _∷_, _++_}
-use Prim.Native.Nat.{ℕ, _≤_}
+use Prim.Native.Nat.{ℕ, _≤_, _<_}
 use lib.Dec.{leb, eqb}
 use lib.ListN.{length}
+use lib.Signed.{mag}
 use Rattle.op.specs.Choice.{pick}
 use Rattle.op.specs.Shapes.{shapeNumber, shapeOf, operandShape, sizeOf}
 use Rattle.op.specs.declared.Operand.{Operand}
@@ -38,6 +39,27 @@ operandBytes (O.U16U16U8 a b c) = wordBytes a ++ wordBytes b ++ c ∷ []
 -- "Operands follow the opcode", and keyword names stand last
 unfoldable pub encode : ℕ → Operand → List ℕ → List ℕ
 encode k o names = k ∷ operandBytes o ++ namesBytes names
+
+-- an operand's signed numbers are in their ranges
+abbrev pub SignsFit : Operand → Type 0
+SignsFit O.None = Unit {0}
+SignsFit (O.U8 a) = Unit {0}
+SignsFit (O.I8 z) = mag z < 128
+SignsFit (O.U16 a) = Unit {0}
+SignsFit (O.Offset z) = mag z < 32768
+SignsFit (O.U8U8 a b) = Unit {0}
+SignsFit (O.U16U8 a b) = Unit {0}
+SignsFit (O.U16U16 a b) = Unit {0}
+SignsFit (O.U16U8U8 a b c) = Unit {0}
+SignsFit (O.CallKw positional names) = Unit {0}
+SignsFit (O.CallAttrKw attribute positional names) = Unit {0}
+SignsFit (O.U16U16U8 a b c) = Unit {0}
+
+-- an instruction that is well formed: the operand has the opcode's shape, fits, and counts the names
+pub record Formed (k : ℕ) (o : Operand) (names : List ℕ) : Type 0 where
+  pub shape : shapeOf k ≡ P.Is (operandShape o)
+  pub signs : SignsFit o
+  pub count : namesIn o ≡ length names
 
 -- what is refused where a test fails
 abbrev pub unless : Bool → Refusal → Written → Written

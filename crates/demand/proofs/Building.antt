@@ -1,6 +1,6 @@
 -- What an accepted build says: the code is within its limit, and no label is open, so no jump waits.
 -- Assumes nothing.
-use mathlib.Core.Path.{_≡_, refl}
+use mathlib.Core.Path.{_≡_, refl, sym, ap, _∙_}
 use mathlib.Core.Bool.{Bool, true, false, _&&_, _||_}
 use mathlib.Core.Logic.{_⊎_, inl, inr}
 use mathlib.Core.List.{List, [], _∷_}
@@ -15,30 +15,62 @@ use Rattle.op.specs.declared.Refusal.the-variants.{OpenLabel, Unsound}
 use Rattle.builder.specs.Calls.{kept, unless, anyOpen, filledNames, buildOf}
 use Rattle.builder.specs.Marks.{openKind, markOf, markAt}
 use Rattle.builder.specs.Tables.{codeLimit, markCells, rowsIn}
+use Rattle.builder.specs.declared.Answer.{Answer}
 use Rattle.builder.specs.declared.Answer.the-variants.{Accepted, Refused}
 use Rattle.builder.specs.declared.Builder.{Builder}
 use Rattle.builder.specs.declared.Mark.the-variants.{Absent, Open, Patched, Target}
 use Rattle.demand.specs.Machine.{isa}
-use Rattle.demand.specs.History.{waits, to, What, one, leap}
+use Rattle.demand.specs.History.{ok, waits, to, What, one, leap}
+use Rattle.demand.specs.Calls.{build}
+use Rattle.demand.specs.World.{World, world, given, after, Made}
 use Rattle.demand.proofs.Lists.{nth-cases}
 use Rattle.demand.proofs.Book.{WValid}
 use Rattle.demand.proofs.Bytes.{Closed}
 use Rattle.demand.proofs.Machining.{laws}
+use Rattle.demand.proofs.Model.{Turn, turn, registers}
+use Rattle.demand.proofs.Contracts.{made-step}
 use Rattle.demand.proofs.View.{tab}
 
-pub built-facts : (b : Builder) (fill : ℕ) (names marks : List ℕ) (n : Builder) → buildOf b fill names marks .answer ≡ Accepted n
-    → (b .core .code ≤ codeLimit) × (anyOpen (b .core .marks) marks ≡ false)
+built-facts : (b : Builder) (fill : ℕ) (names marks : List ℕ) (n : Builder) → buildOf b fill names marks .answer ≡ Accepted n
+    → (b .core .code ≤ codeLimit) × (anyOpen (b .core .marks) marks ≡ false) × (n ≡ b)
 unfolding buildOf
 built-facts b fill names marks n e =
     go (leb (b .core .code) codeLimit) (leb (b .names) (length names) && rowsIn markCells (b .core .marks) (length marks)) (anyOpen (b .core .marks) marks) refl refl e
   where
     go : (s t u : Bool) → leb (b .core .code) codeLimit ≡ s → anyOpen (b .core .marks) marks ≡ u
         → unless (s && t) Unsound names (pick u (kept (Refused OpenLabel) names) (kept (Accepted b) (filledNames (b .names) fill names))) .answer ≡ Accepted n
-        → (b .core .code ≤ codeLimit) × (anyOpen (b .core .marks) marks ≡ false)
-    go true true false p q e = (leb-true (b .core .code) codeLimit p, q)
+        → (b .core .code ≤ codeLimit) × (anyOpen (b .core .marks) marks ≡ false) × (n ≡ b)
+    go true true false p q e = (leb-true (b .core .code) codeLimit p, q, cc)
     go true true true p q e = absurd (let z : _≡_ {A = ℕ} 0 1 = cc in omega arith)
     go true false u p q e = absurd (let z : _≡_ {A = ℕ} 0 1 = cc in omega arith)
     go false t u p q e = absurd (let z : _≡_ {A = ℕ} 0 1 = cc in omega arith)
+
+-- what an accepted build of w says of it and of the world that it leaves
+pub record Builds (w w′ : World) : Type 0 where
+  pub limit : w .state .core .code ≤ codeLimit
+  pub closed : anyOpen (w .state .core .marks) (w .marks) ≡ false
+  pub state : w′ .state ≡ w .state
+  pub code : w′ .code ≡ w .code
+  pub starts : w′ .starts ≡ w .starts
+
+pub builds : (fill : ℕ) (w w′ : World) → Made (build fill) w ok w′ → Builds w w′
+builds fill w w′ m =
+    let e : turn w′ ok ≡ registers w (buildOf (w .state) fill (w .names) (w .marks)) = made-step (build fill) w w′ ok m in
+    go (buildOf (w .state) fill (w .names) (w .marks) .answer) refl (sym (ap (λ (t : Turn). t .answer) e)) (ap (λ (t : Turn). t .left) e)
+  where
+    go : (a : Answer) → buildOf (w .state) fill (w .names) (w .marks) .answer ≡ a → given a ≡ ok
+        → w′ ≡ world (after a (w .state)) (w .code) (w .locations) (w .exceptions) (w .constants) (buildOf (w .state) fill (w .names) (w .marks) .cells) (w .marks) (w .starts)
+        → Builds w w′
+    go (Refused r) p q l = absurd (let z : _≡_ {A = ℕ} 0 1 = cc in omega arith)
+    go (Accepted n) p q l =
+        let f = built-facts (w .state) fill (w .names) (w .marks) n p in
+        record {
+          limit = f .0;
+          closed = f .1;
+          state = ap (λ (v : World). v .state) l ∙ f .2;
+          code = ap (λ (v : World). v .code) l;
+          starts = ap (λ (v : World). v .starts) l;
+        }
 
 open-kind : (kind x y o d : ℕ) → markOf kind x y ≡ Open o d → eqb kind openKind ≡ true
 unfolding markOf

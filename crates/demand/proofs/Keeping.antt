@@ -109,10 +109,10 @@ module _ (r : Refusal) (cells : List ℕ) where
   accepting : (b : Builder) (new : List ℕ) → CellsKept r cells (kept (Accepted b) new)
   accepting b new e = cc
 
-  pub new-refused : (told : Depth) → CellsKept r cells (newOf told cells)
+  pub new-kept : (told : Depth) → CellsKept r cells (newOf told cells)
   unfolding newOf
-  new-refused Dead = accepting (freshAt Dead 0) cells
-  new-refused (Live d) = passing (rowFree startCells 0 (length cells)) (Full Starts) _ (accepting _ _)
+  new-kept Dead = accepting (freshAt Dead 0) cells
+  new-kept (Live d) = passing (rowFree startCells 0 (length cells)) (Full Starts) _ (accepting _ _)
 
   module _ (b : Builder) where
     region-at : (x : Depth) (d : ℕ) → CellsKept r cells (regionAt x b d cells)

@@ -15,6 +15,8 @@ pub mod Held
 pub mod Keeping
 pub mod Ties
 pub mod Within
+pub mod Model
+pub mod Contracts
 pub mod Steps
 pub mod Refusing
 pub mod Pairs
@@ -25,5 +27,3 @@ pub mod Answering
 pub mod Theorem
 pub mod Example
 pub mod Prefixes
-pub mod Promised
-pub mod Contracts

@@ -28,10 +28,10 @@ use Rattle.op.specs.declared.Shaped.the-variants as P
 use Rattle.code.specs.Bytes.{unsigned}
 use Rattle.code.specs.Decode.{decode}
 use Rattle.code.specs.Depths.{Leads}
-use Rattle.code.specs.Encode.{encode}
+use Rattle.code.specs.Encode.{encode, Formed}
 use Rattle.code.specs.Flow.{goalOf, changeOf}
 use Rattle.code.specs.declared.Goal.the-variants.{Nowhere}
-use Rattle.code.proofs.Inverse.{Formed, decode-encode, names-encode, words-names}
+use Rattle.code.proofs.Inverse.{decode-encode, names-encode, words-names}
 use Rattle.code.proofs.Twos.{signed-small, unsigned-signed}
 use Rattle.builder.specs.Tables.{jumpSize}
 use Rattle.builder.specs.Marks.{near, bits}

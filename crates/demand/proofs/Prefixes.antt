@@ -1,4 +1,4 @@
--- "The bytes of no instruction are a proper beginning of another's", so two different lists of instructions never give the same code.
+-- No instruction's bytes begin another's: specs/Prefixes.antt has the statements.
 -- Assumes nothing.
 use mathlib.Core.Path.{_≡_, refl, sym, ap, _∙_}
 use mathlib.Core.List.{List, [], _∷_, _++_, append-nil, List·Memᴰ as Mem, List·Memᴰ·head as mhead, List·Memᴰ·tail as mtail}
@@ -6,17 +6,13 @@ use Prim.Native.Nat.{ℕ}
 use native.Mathlib.Omega.{arith}
 use lib.ListN.{length, drop, length-append}
 use lib.Seq.{drop-at}
-use Rattle.code.proofs.Inverse.{Formed}
 use Rattle.demand.specs.Isa.{ins}
 use Rattle.demand.specs.Machine.{Instruction, isa}
+use Rattle.demand.specs.Prefixes.{WellFormed, allBytes, PrefixFree, OneList}
 use Rattle.demand.proofs.Machining.{dec-formed, encode-some}
 
--- an instruction that can be written
-abbrev pub WellFormed : Instruction → Type 0
-WellFormed i = Formed (i .opcode) (i .operand) (i .names)
-
 -- code begins with one instruction only
-pub same-first : (i j : Instruction) (r q : List ℕ) → WellFormed i → WellFormed j → isa .bytes i ++ r ≡ isa .bytes j ++ q → (i ≡ j) × (r ≡ q)
+same-first : (i j : Instruction) (r q : List ℕ) → WellFormed i → WellFormed j → isa .bytes i ++ r ≡ isa .bytes j ++ q → (i ≡ j) × (r ≡ q)
 same-first i j r q f g e =
     let a = dec-formed i f r in
     let b = dec-formed j g q in
@@ -25,20 +21,15 @@ same-first i j r q f g e =
     let n : length (isa .bytes j) ≡ length (isa .bytes i) = cc in
     (k, sym (drop-at (isa .bytes i) r (length (isa .bytes i)) refl) ∙ ap (drop (length (isa .bytes i))) e ∙ drop-at (isa .bytes j) q (length (isa .bytes i)) n)
 
-pub prefix-free : (i j : Instruction) (r : List ℕ) → WellFormed i → WellFormed j → isa .bytes i ++ r ≡ isa .bytes j → (i ≡ j) × (r ≡ [])
+pub prefix-free : PrefixFree
 prefix-free i j r f g e = same-first i j r [] f g (e ∙ sym (append-nil (isa .bytes j)))
-
--- the bytes of a list of instructions
-abbrev pub allBytes : List Instruction → List ℕ
-allBytes [] = []
-allBytes (i ∷ is) = isa .bytes i ++ allBytes is
 
 not-empty : (i : Instruction) (l : List ℕ) → isa .bytes i ++ l ≡ [] → ⊥
 not-empty i l e =
     let n : length (isa .bytes i ++ l) ≡ 0 = ap length e in
     omega (arith, length-append (isa .bytes i) l, encode-some (i .opcode) (i .operand) (i .names))
 
-pub one-list : (is js : List Instruction) → ((i : Instruction) → Mem i is → WellFormed i) → ((j : Instruction) → Mem j js → WellFormed j) → allBytes is ≡ allBytes js → is ≡ js
+pub one-list : OneList
 one-list [] [] f g e = refl
 one-list [] (j ∷ js) f g e = absurd (not-empty j (allBytes js) (sym e))
 one-list (i ∷ is) [] f g e = absurd (not-empty i (allBytes is) e)

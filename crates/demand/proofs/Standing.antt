@@ -15,13 +15,13 @@ use Rattle.op.specs.declared.After.the-variants as A
 use Rattle.op.specs.declared.Refusal.{Refusal}
 use Rattle.code.specs.Decode.{decode}
 use Rattle.code.specs.Depths.{Stands, Place, first, next, Faulty, Rising}
-use Rattle.code.specs.Encode.{encode}
+use Rattle.code.specs.Encode.{encode, Formed}
 use Rattle.code.specs.Flow.{flowBy, flowOf}
 use Rattle.code.specs.declared.Flow.{Flow}
 use Rattle.code.specs.declared.Flowing.the-variants as F
 use Rattle.code.specs.declared.Step.the-variants.{Instr}
 use Rattle.code.proofs.Flows.{flow-op}
-use Rattle.code.proofs.Inverse.{Formed, decode-encode}
+use Rattle.code.proofs.Inverse.{decode-encode}
 use Rattle.code.proofs.Places.{stands-size, stands-one, stands-no-fault, end-no-fault}
 use Rattle.demand.specs.Machine.{Instruction, isa}
 use Rattle.demand.specs.History.{waits, to, What, one, leap, Row, size, final}

@@ -3,17 +3,20 @@
 use mathlib.Core.Path.{_≡_, refl}
 use mathlib.Core.Bool.{Bool, true, false}
 use mathlib.Core.List.{List, [], _∷_}
-use Prim.Native.Nat.{ℕ, _*_, _%_, _≤_}
+use Prim.Native.Nat.{ℕ, zero, suc, _*_, _%_, _≤_, _<_}
 use native.Mathlib.Omega.{arith}
 use lib.Dec.{leb}
 use lib.ListN.{length}
+use borrow.Author.Tests.{lt-leb, ne-eqb}
 use Rattle.op.specs.Choice.{pick}
+use Rattle.op.specs.Chosen.{LoadLocal, LoadLocalW, StoreLocal, StoreLocalW}
+use Rattle.op.specs.Chosen.{LoadGlobalCallable, CallBuiltinFunction, CallBuiltinType, CallFunctionKw, CallAttrKw}
 use Rattle.op.specs.Opcodes.{RaiseUnboundLocal}
 use Rattle.op.specs.declared.Operand.{Operand}
 use Rattle.op.specs.declared.Operand.the-variants as O
-use Rattle.code.proofs.Inverse.{SignsFit}
+use Rattle.code.specs.Encode.{SignsFit}
 use Rattle.builder.specs.Tables.{startCells}
-use Rattle.builder.specs.Emit.{LoadGlobalCallable, CallBuiltinFunction, CallBuiltinType, CallFunctionKw, CallAttrKw, loadOp, loadOperand, storeOp, storeOperand}
+use Rattle.builder.specs.Emit.{loadOp, loadOperand, storeOp, storeOperand}
 use Rattle.builder.specs.Emit.{emitNamed}
 use Rattle.builder.specs.Calls.{Kept, addConstOf, addExceptionOf, registerNamesOf, registerNameOf, buildOf, withLocation}
 use Rattle.builder.specs.declared.Added.{Added}
@@ -27,9 +30,10 @@ use Rattle.demand.specs.Calls.{emit′, emit-u8, emit-i8, emit-u8-u8, em
 use Rattle.demand.specs.Calls.{emit-call-function-kw, emit-call-attr-kw, emit-raise-unbound-local, emit-load-global-callable, emit-name-op, emit-load-local, emit-store-local}
 use Rattle.demand.specs.Calls.{emit-jump, emit-jump-to, current-jump-target, patch-jump, new-code-region, add-const, add-exception-entry, register-local-names, register-local-name, build}
 use Rattle.demand.specs.Calls.{set-location, current-offset, current-position, stack-depth, is-dead}
-use Rattle.demand.specs.Calls.{PublicCall, Fits, kindOf}
-use Rattle.demand.specs.World.{World, world, given, after, givenConst, afterConst, Turn, turn, emits, step, Run, next, run}
-use Rattle.demand.specs.Demand.{AllFit}
+use Rattle.demand.specs.Calls.{PublicCall, loads, stores, kindOf}
+use Rattle.demand.specs.World.{World, world, given, after, givenConst, afterConst, Run, Taken, none, then}
+use Rattle.demand.proofs.Model.{Turn, turn, emits, step}
+use Rattle.demand.proofs.Contracts.{made-step}
 use Rattle.demand.proofs.Machining.{Still}
 use Rattle.demand.proofs.View.{View, viewOf, Moved, refused, idle}
 use Rattle.demand.proofs.Views.{emit-moves, jump-moves, to-moves, patch-moves, target-moves, region-moves}
@@ -54,39 +58,69 @@ sane-store slot = sane-pick (leb slot 255) (O.U8 slot) (O.U16 slot) (tt, λ n e.
 sane-load : (slot : ℕ) → SaneOperand (loadOperand slot)
 sane-load slot = sane-pick (leb slot 3) O.None (storeOperand slot) (tt, λ n e. refl) (sane-store slot)
 
-pub fits-sane : (c : PublicCall) → Fits c → Sane (kindOf c)
-fits-sane (emit′ k) f = (tt, λ n e. refl)
-fits-sane (emit-u8 k a) f = (tt, λ n e. refl)
-fits-sane (emit-i8 k z) f = (f .1, λ n e. refl)
-fits-sane (emit-u8-u8 k a b) f = (tt, λ n e. refl)
-fits-sane (emit-u16 k a) f = (tt, λ n e. refl)
-fits-sane (emit-u16-u16 k a b) f = (tt, λ n e. refl)
-fits-sane (emit-u16-u8 k a b) f = (tt, λ n e. refl)
-fits-sane (emit-u16-u8-u8 k a b c) f = (tt, λ n e. refl)
-fits-sane (emit-call-builtin-function a n) f = (tt, λ n e. refl)
-fits-sane (emit-call-builtin-type a n) f = (tt, λ n e. refl)
-fits-sane (emit-call-function-kw p ns) f = (tt, λ n e. refl)
-fits-sane (emit-call-attr-kw a p ns) f = (tt, λ n e. refl)
-fits-sane (emit-raise-unbound-local name) f = (tt, λ n e. refl)
-fits-sane (emit-load-global-callable slot name) f = (tt, λ n e. refl)
-fits-sane (emit-name-op k slot name flags) f = (tt, λ n e. refl)
-fits-sane (emit-load-local slot) f = sane-load slot
-fits-sane (emit-store-local slot) f = sane-store slot
-fits-sane (emit-jump k) f = tt
-fits-sane (emit-jump-to k t) f = tt
-fits-sane current-jump-target f = tt
-fits-sane (patch-jump l) f = tt
-fits-sane (new-code-region d) f = omega arith
-fits-sane (add-const v) f = tt
-fits-sane (add-exception-entry start end handler d n kind) f = tt
-fits-sane (register-local-names ns) f = tt
-fits-sane (register-local-name slot name) f = tt
-fits-sane (build fill) f = tt
-fits-sane (set-location r g) f = tt
-fits-sane current-offset f = tt
-fits-sane current-position f = tt
-fits-sane stack-depth f = tt
-fits-sane is-dead f = tt
+-- the model's choices are the history's
+
+wide-load : (slot : ℕ) → 3 < slot → loads slot ≡ emit (loadOp slot) (loadOperand slot) []
+wide-load slot h =
+    rw (
+      ne-eqb slot 0 (λ e. omega arith),
+      ne-eqb slot 1 (λ e. omega arith),
+      ne-eqb slot 2 (λ e. omega arith),
+      ne-eqb slot 3 (λ e. omega arith),
+      lt-leb slot 3 h,
+    ) (go (leb slot 255))
+  where
+    go : (t : Bool) → pick t (emit LoadLocal (O.U8 slot) []) (emit LoadLocalW (O.U16 slot) []) ≡ emit (pick t LoadLocal LoadLocalW) (pick t (O.U8 slot) (O.U16 slot)) []
+    go true = refl
+    go false = refl
+
+pub load-kind : (slot : ℕ) → loads slot ≡ emit (loadOp slot) (loadOperand slot) []
+load-kind zero = refl
+load-kind (suc zero) = refl
+load-kind (suc (suc zero)) = refl
+load-kind (suc (suc (suc zero))) = refl
+load-kind (suc (suc (suc (suc n)))) = wide-load (suc (suc (suc (suc n)))) (omega arith)
+
+pub store-kind : (slot : ℕ) → stores slot ≡ emit (storeOp slot) (storeOperand slot) []
+store-kind slot = go (leb slot 255)
+  where
+    go : (t : Bool) → pick t (emit StoreLocal (O.U8 slot) []) (emit StoreLocalW (O.U16 slot) []) ≡ emit (pick t StoreLocal StoreLocalW) (pick t (O.U8 slot) (O.U16 slot)) []
+    go true = refl
+    go false = refl
+
+pub sane : (c : PublicCall) → Sane (kindOf c)
+sane (emit′ k) = (tt, λ n e. refl)
+sane (emit-u8 k a) = (tt, λ n e. refl)
+sane (emit-i8 k z f) = (f, λ n e. refl)
+sane (emit-u8-u8 k a b) = (tt, λ n e. refl)
+sane (emit-u16 k a) = (tt, λ n e. refl)
+sane (emit-u16-u16 k a b) = (tt, λ n e. refl)
+sane (emit-u16-u8 k a b) = (tt, λ n e. refl)
+sane (emit-u16-u8-u8 k a b c) = (tt, λ n e. refl)
+sane (emit-call-builtin-function a n) = (tt, λ n e. refl)
+sane (emit-call-builtin-type a n) = (tt, λ n e. refl)
+sane (emit-call-function-kw p ns) = (tt, λ n e. refl)
+sane (emit-call-attr-kw a p ns) = (tt, λ n e. refl)
+sane (emit-raise-unbound-local name) = (tt, λ n e. refl)
+sane (emit-load-global-callable slot name) = (tt, λ n e. refl)
+sane (emit-name-op k slot name flags) = (tt, λ n e. refl)
+sane (emit-load-local slot) = rw (load-kind slot) (sane-load slot)
+sane (emit-store-local slot) = rw (store-kind slot) (sane-store slot)
+sane (emit-jump k) = tt
+sane (emit-jump-to k t) = tt
+sane current-jump-target = tt
+sane (patch-jump l) = tt
+sane (new-code-region d f) = omega arith
+sane (add-const v) = tt
+sane (add-exception-entry start end handler d n kind) = tt
+sane (register-local-names ns) = tt
+sane (register-local-name slot name) = tt
+sane (build fill) = tt
+sane (set-location r f) = tt
+sane current-offset = tt
+sane current-position = tt
+sane stack-depth = tt
+sane is-dead = tt
 
 -- the used parts are within the tables
 
@@ -135,7 +169,7 @@ module _ (w : World) (h : Within w) where
   pub moving : (c : PublicCall) → Moving w (kindOf c) (step c w)
   moving (emit′ k) = emission k 0 O.None []
   moving (emit-u8 k a) = emission k 0 (O.U8 a) []
-  moving (emit-i8 k z) = emission k 0 (O.I8 z) []
+  moving (emit-i8 k z f) = emission k 0 (O.I8 z) []
   moving (emit-u8-u8 k a b) = emission k 0 (O.U8U8 a b) []
   moving (emit-u16 k a) = emission k 0 (O.U16 a) []
   moving (emit-u16-u16 k a b) = emission k 0 (O.U16U16 a b) []
@@ -148,8 +182,8 @@ module _ (w : World) (h : Within w) where
   moving (emit-raise-unbound-local name) = emission RaiseUnboundLocal name (O.U16 (name % 65536)) []
   moving (emit-load-global-callable slot name) = emission LoadGlobalCallable name (O.U16U16 slot (name % 65536)) []
   moving (emit-name-op k slot name flags) = emission k name (O.U16U16U8 slot (name % 65536) flags) []
-  moving (emit-load-local slot) = emission (loadOp slot) 0 (loadOperand slot) []
-  moving (emit-store-local slot) = emission (storeOp slot) 0 (storeOperand slot) []
+  moving (emit-load-local slot) = rw (load-kind slot) (emission (loadOp slot) 0 (loadOperand slot) [])
+  moving (emit-store-local slot) = rw (store-kind slot) (emission (storeOp slot) 0 (storeOperand slot) [])
   moving (emit-jump k) = record {
     moves = jump-moves (w .state) k (w .code) (w .locations) (w .marks) (w .starts);
     within = record {
@@ -177,7 +211,7 @@ module _ (w : World) (h : Within w) where
       starts = rw (patch-starts (w .state) l (w .code) (w .marks)) (h .starts);
     };
   }
-  moving (new-code-region d) =
+  moving (new-code-region d f) =
       let q = region-keeps (w .state) d (w .starts) (h .starts) in
       record {
         moves = region-moves (w .state) (w .code) (w .marks) (w .starts) (h .code) d;
@@ -205,11 +239,12 @@ module _ (w : World) (h : Within w) where
   moving stack-depth = stays (w .state) ok (w .locations) (w .exceptions) (w .constants) (w .names) (refl, refl) (λ v. idle)
   moving is-dead = stays (w .state) ok (w .locations) (w .exceptions) (w .constants) (w .names) (refl, refl) (λ v. idle)
 
--- so a run keeps the history tied to the view
+-- so calls keep the history tied to the view
 
-pub run-tied : (x : Run) (cs : List PublicCall) → AllFit cs → Within (x .world) → Tied (view (x .world)) (x .history)
-    → Within (run x cs .world) × Tied (view (run x cs .world)) (run x cs .history)
-run-tied x [] f h t = (h, t)
-run-tied x (c ∷ cs) f h t =
-    let m = moving (x .world) h c in
-    run-tied (next x c) cs (f .1) (m .within) (moved-tied (x .history) t (fits-sane c (f .0)) (m .moves))
+pub taken-tied : (x y : Run) → Taken x y → Within (x .world) → Tied (view (x .world)) (x .history)
+    → Within (y .world) × Tied (view (y .world)) (y .history)
+taken-tied x y none h t = (h, t)
+taken-tied x z (then {y} c g w′ before m) h t =
+    let q = taken-tied x y before h t in
+    let v : Moving (y .world) (kindOf c) (turn w′ g) = rw (made-step c (y .world) w′ g m) (moving (y .world) (q .0) c) in
+    (v .within, moved-tied (y .history) (q .1) (sane c) (v .moves))

@@ -1,60 +1,63 @@
 -- Demand 3, proved: specs/Demand.antt has the statement.
 -- Assumes nothing.
-use mathlib.Core.Path.{_≡_, ap, _∙_}
+use mathlib.Core.Path.{_≡_, sym, ap, _∙_}
 use mathlib.Core.List.{List·Memᴰ as Mem}
 use Prim.Native.Nat.{ℕ, _≤_}
 use native.Mathlib.Omega.{arith}
 use lib.ListN.{length}
 use lib.Seq.{length-take-le}
+use Rattle.builder.specs.Calls.{Kept, kept, newOf, buildOf}
 use Rattle.builder.specs.Tables.{codeLimit}
+use Rattle.builder.specs.declared.Answer.the-variants.{Accepted}
 use Rattle.builder.specs.declared.Depth.{Depth}
 use Rattle.builder.specs.declared.Depth.the-variants.{Dead, Live}
 use Rattle.demand.specs.Machine.{isa}
-use Rattle.demand.specs.History.{waits, leap, Row, History, blank}
-use Rattle.demand.specs.Calls.{InDepth}
-use Rattle.demand.specs.World.{World}
-use Rattle.demand.specs.Demand.{Built, finished, regionStarts, cells, Demand, Demanded}
-use Rattle.demand.proofs.Bytes.{bytesOf, reads-rows, Closed}
+use Rattle.demand.specs.History.{ok, waits, leap, Row, History, blank}
+use Rattle.demand.specs.Calls.{build}
+use Rattle.demand.specs.World.{World, Made}
+use Rattle.demand.specs.Demand.{InDepth, begun, finished, regionStarts, cells, Demand, Demanded}
+use Rattle.demand.proofs.Bytes.{bytesOf, reads-rows, depth-row, Closed}
 use Rattle.demand.proofs.Machining.{laws}
 use Rattle.demand.proofs.Pairs.{cells-tab}
 use Rattle.demand.proofs.Views.{new-view}
 use Rattle.demand.proofs.Within.{new-within}
 use Rattle.demand.proofs.Ties.{Tied, Small, book, fresh, fresh-tied, tied-end}
-use Rattle.demand.proofs.Steps.{Within, view, run-tied}
-use Rattle.demand.proofs.Building.{built-facts, open-any, closed-by}
+use Rattle.demand.proofs.Steps.{Within, view, taken-tied}
+use Rattle.demand.proofs.Building.{Builds, builds, open-any, closed-by}
 use Rattle.demand.proofs.Answering.{smallest-at, derived-at, checked-at}
 
-module _ (w : World) (h : History) (t : Tied (view w) h) (B : Built w) where
+module _ (w w′ : World) (h : History) (t : Tied (view w) h) (B : Builds w w′) where
   -- every label is patched
   settled : (r : Row isa) → Mem r (h .rows) → (j k : ℕ) → r .what ≡ leap j (waits k) → ⊥
   settled r m j k e =
       let q = t .good .opens r j k m e in
       let z = open-any (w .state .core .marks) (w .marks) k (r .offset) (q .0) (q .1) in
-      let y = built-facts (w .state) (B .fill) (w .names) (w .marks) (B .built) (B .accepted) .1 in
+      let y = B .closed in
       let x : _≡_ {A = ℕ} 0 1 = cc in
       omega arith
 
   closed : (r : Row isa) → Mem r (h .rows) → Closed isa laws (r .offset) (r .what)
   closed r m = closed-by (r .offset) (r .what) (t .good .each r m .fine) (settled r m)
 
--- a world whose view is tied to a history, with build accepted
-finish : (w : World) (h : History) → Within w → Tied (view w) h → Built w → Demand w h
-finish w h i t B =
-    let f = built-facts (w .state) (B .fill) (w .names) (w .marks) (B .built) (B .accepted) in
+-- a world whose view is tied to a history, and the one that `build` leaves
+finish : (w w′ : World) (h : History) → Within w → Tied (view w) h → Builds w w′ → Demand w w′ h
+finish w w′ h i t B =
     let g = t .good in
     let b = book (view w) h in
-    let c = closed w h t B in
+    let c = closed w w′ h t B in
     let ec : finished w ≡ bytesOf isa (h .rows) = t .code in
     let es : regionStarts w ≡ cells (view w .starts) = cells-tab (w .state .starts) (w .starts) (i .starts) in
     let en : length (finished w) ≡ h .end = tied-end (view w) h t in
-    let short : h .end ≤ codeLimit = omega (arith, f .0, length-take-le (w .state .core .code) (w .code) (i .code)) in
+    let short : h .end ≤ codeLimit = omega (arith, B .limit, length-take-le (w .state .core .code) (w .code) (i .code)) in
     record {
-      reads = rw ec (reads-rows isa laws (h .end) (h .rows) (g .chain) c);
-      settled = settled w h t B;
-      starts = es ∙ ap cells (t .starts);
-      smallest = smallest-at b g c (finished w) (regionStarts w) (length (finished w)) ec es en;
-      derived = derived-at b g c (finished w) (regionStarts w) (length (finished w)) ec es en;
-      checks = checked-at b g c (finished w) (regionStarts w) (length (finished w)) ec es en short;
+      unchanged = (B .state, B .code, B .starts);
+      reads = rw (B .state, B .code, ec) (reads-rows isa laws (h .end) (h .rows) (g .chain) c);
+      settled = settled w w′ h t B;
+      starts = rw (B .state, B .starts) (es ∙ ap cells (t .starts));
+      before = λ r m. rw (B .state, B .code, en) (depth-row isa laws 0 (h .rows) (h .end) (w .state .core .depth) r (g .chain) m);
+      smallest = rw (B .state, B .code, B .starts) (smallest-at b g c (finished w) (regionStarts w) (length (finished w)) ec es en);
+      derived = rw (B .state, B .code, B .starts) (derived-at b g c (finished w) (regionStarts w) (length (finished w)) ec es en);
+      checks = rw (B .state, B .code, B .starts) (checked-at b g c (finished w) (regionStarts w) (length (finished w)) ec es en short);
     }
 
 small : (told : Depth) → InDepth told → Small told
@@ -63,9 +66,12 @@ small (Live d) f = omega arith
 
 -- Demand 3
 pub demand-3 : Demanded
-demand-3 told w F calls fit B =
-    let n = new-within told (F .before) (w .state) (F .answer) in
-    let within : Within w = record { code = omega (arith, n .0); starts = rw (F .starts) at (n .1) } in
-    let v : view w ≡ fresh told = rw (F .starts) at (new-view told (w .code) (w .marks) (F .before) (w .state) (F .answer)) in
-    let x = run-tied (record { world = w; history = blank told }) calls fit within (rw v (fresh-tied told (small told (F .fits)))) in
-    finish _ _ (x .0) (x .1) B
+demand-3 told w F x T fill w′ m =
+    let e : kept (Accepted (w .state)) (F .exit .now) ≡ newOf told (F .entry .now) = F .keeps in
+    let a : newOf told (F .entry .now) .answer ≡ Accepted (w .state) = sym (ap (λ (k : Kept). k .answer) e) in
+    let s : newOf told (F .entry .now) .cells ≡ w .starts = sym (ap (λ (k : Kept). k .cells) e) ∙ F .starts in
+    let n = new-within told (F .entry .now) (w .state) a in
+    let within : Within w = record { code = omega (arith, n .0); starts = rw s at (n .1) } in
+    let v : view w ≡ fresh told = rw s at (new-view told (w .code) (w .marks) (F .entry .now) (w .state) a) in
+    let q = taken-tied (begun told w) x T within (rw v (fresh-tied told (small told (F .fits)))) in
+    finish (x .world) w′ (x .history) (q .0) (q .1) (builds fill (x .world) w′ m)

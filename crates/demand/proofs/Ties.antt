@@ -17,8 +17,7 @@ use Rattle.op.specs.declared.After.the-variants as A
 use Rattle.op.specs.declared.Operand.{Operand}
 use Rattle.op.specs.declared.Refusal.{Refusal}
 use Rattle.code.specs.Decode.{namesIn}
-use Rattle.code.specs.Encode.{encode}
-use Rattle.code.proofs.Inverse.{SignsFit}
+use Rattle.code.specs.Encode.{encode, SignsFit}
 use Rattle.builder.specs.Jumps.{unpatched, jumpBy}
 use Rattle.builder.specs.Marks.{near, bits, meets}
 use Rattle.builder.specs.Plan.{behind}

@@ -8,40 +8,41 @@ use mathlib.Core.List.{List, [], _∷_, List·Memᴰ}
 use mathlib.Core.Logic.{_↔_}
 use mathlib.Core.Option.{Option, some, none}
 use Prim.Native.Nat.{ℕ, _*_, _≤_, _<_}
+use contract.Lifetimes.{Lfts}
 use lib.ListN.{length, take}
 use Rattle.code.specs.Depths.{Smallest, Derived}
-use Rattle.builder.specs.Calls.{newOf, buildOf}
 use Rattle.builder.specs.Tables.{startCells}
 use Rattle.builder.specs.declared.Answer.the-variants.{Accepted}
-use Rattle.builder.specs.declared.Builder.{Builder}
 use Rattle.builder.specs.declared.Depth.{Depth}
+use Rattle.builder.specs.declared.Depth.the-variants.{Dead, Live}
+use Rattle.builder.proofs.Builder.new.Reads.{Learnt as new-says}
 use Rattle.checker.specs.Cells.{cell}
 use Rattle.checker.specs.Promise.{Promise}
 use Rattle.checker.specs.declared.Checked.{Checked}
 use Rattle.checker.specs.declared.Checked.the-variants as C
 use Rattle.demand.specs.Isa.{reading}
 use Rattle.demand.specs.Machine.{isa}
-use Rattle.demand.specs.History.{waits, leap, Row, program, depthAt, History, blank}
-use Rattle.demand.specs.Calls.{PublicCall, Fits, InDepth}
-use Rattle.demand.specs.World.{World, Run, run}
+use Rattle.demand.specs.History.{ok, waits, leap, Row, program, depthAt, History, blank}
+use Rattle.demand.specs.Calls.{U16, build}
+use Rattle.demand.specs.World.{World, Slice, Made, Run, Taken}
 
--- "a fresh builder": what `new` answers and leaves, and any other tables
+-- the depth that a new builder is told
+abbrev pub InDepth : Depth → Type 0
+InDepth Dead = Unit {0}
+InDepth (Live d) = U16 d
+
+-- "a fresh builder": what `new` answers and leaves by its contract, and any other tables
 pub record Fresh (told : Depth) (w : World) : Type 0 where
   pub fits : InDepth told
-  pub before : List ℕ
-  pub answer : newOf told before .answer ≡ Accepted (w .state)
-  pub starts : newOf told before .cells ≡ w .starts
+  pub lifetimes : Lfts 1
+  pub entry : Slice
+  pub exit : Slice
+  pub keeps : new-says lifetimes (told, (entry, tt)) (Accepted (w .state)) (told, (exit, tt))
+  pub starts : exit .now ≡ w .starts
 
--- "any calls", each with arguments of its types
-abbrev pub AllFit : List PublicCall → Type 0
-AllFit [] = Unit {0}
-AllFit (c ∷ cs) = Fits c × AllFit cs
-
--- "build accepted at the end"
-pub record Built (w : World) : Type 0 where
-  pub fill : ℕ
-  pub built : Builder
-  pub accepted : buildOf (w .state) fill (w .names) (w .marks) .answer ≡ Accepted built
+-- a run that begins with it
+abbrev pub begun : Depth → World → Run
+begun told w = record { world = w; history = blank told }
 
 -- "the finished bytes"
 abbrev pub finished : World → List ℕ
@@ -65,25 +66,27 @@ abbrev pub cellOf : Option ℕ → ℕ
 cellOf none = 65536
 cellOf (some d) = d
 
-pub record Demand (w : World) (h : History) : Type 0 where
+-- of the world w that the calls left, the world w′ behind `build`, and the history h of the calls
+pub record Demand (w w′ : World) (h : History) : Type 0 where
+  -- `build` leaves the state, the code and the starts as they were
+  pub unchanged : (w′ .state ≡ w .state) × (w′ .code ≡ w .code) × (w′ .starts ≡ w .starts)
   -- "Reading the finished bytes gives exactly the instructions accepted while live, in order, each jump with its final displacement"
-  pub reads : reading isa (finished w) ≡ some (program isa (h .rows))
+  pub reads : reading isa (finished w′) ≡ some (program isa (h .rows))
   -- every jump has its place: none waits for its label
   pub settled : (r : Row isa) → List·Memᴰ r (h .rows) → (k l : ℕ) → r .what ≡ leap k (waits l) → ⊥
   -- the starts are a live new builder's and the regions' opened, no others
-  pub starts : regionStarts w ≡ cells (h .starts)
+  pub starts : regionStarts w′ ≡ cells (h .starts)
+  -- "one at each instruction": the depth that the builder had before it
+  pub before : (r : Row isa) → List·Memᴰ r (h .rows) → depths w′ h (r .offset) ≡ some (r .depth)
   -- "the depths derived from those bytes and the region starts alone": the smallest assignment, and just what paths from the starts lead to
-  pub smallest : Smallest (finished w) (regionStarts w) (depths w h)
-  pub derived : (o d : ℕ) → (depths w h o ≡ some d) ↔ Derived (finished w) (regionStarts w) o d
+  pub smallest : Smallest (finished w′) (regionStarts w′) (depths w′ h)
+  pub derived : (o d : ℕ) → (depths w′ h o ≡ some d) ↔ Derived (finished w′) (regionStarts w′) o d
   -- so a check of those bytes and starts accepts, with those depths and with as many instructions
-  pub checks : (d d′ : List ℕ) (r : Checked) → length (finished w) < length d → Promise (finished w) (regionStarts w) d d′ r
-      → (r ≡ C.Accepted (length (h .rows))) × ((o : ℕ) → o ≤ length (finished w) → cell d′ o ≡ cellOf (depths w h o))
+  pub checks : (d d′ : List ℕ) (r : Checked) → length (finished w′) < length d → Promise (finished w′) (regionStarts w′) d d′ r
+      → (r ≡ C.Accepted (length (h .rows))) × ((o : ℕ) → o ≤ length (finished w′) → cell d′ o ≡ cellOf (depths w′ h o))
 
--- "Take any calls on a fresh builder"
-abbrev pub taken : Depth → World → List PublicCall → Run
-taken told w calls = run (record { world = w; history = blank told }) calls
-
--- the demand
+-- the demand: of every fresh builder, all calls taken from there, and a `build` that is accepted
 abbrev pub Demanded : Type 0
-Demanded = (told : Depth) (w : World) → Fresh told w → (calls : List PublicCall) → AllFit calls → Built (taken told w calls .world)
-    → Demand (taken told w calls .world) (taken told w calls .history)
+Demanded =
+    (told : Depth) (w : World) → Fresh told w → (x : Run) → Taken (begun told w) x
+    → (fill : ℕ) (w′ : World) → Made (build fill) (x .world) ok w′ → Demand (x .world) w′ (x .history)

@@ -4,3 +4,5 @@ pub mod History
 pub mod Calls
 pub mod World
 pub mod Demand
+pub mod Refused
+pub mod Prefixes

@@ -13,6 +13,8 @@ use borrow.Author.Tests.{le-leb, lt-leb}
 use Rattle.op.specs.Choice.{pick}
 use Rattle.op.specs.Opcodes.{Row, op, same, table, rowOf}
 use Rattle.op.specs.Opcodes.{Jump, JumpIfTrue, JumpIfFalse, JumpIfTrueOrPop, JumpIfFalseOrPop, ForIter, Raise, Reraise, ReturnValue, RaiseUnboundLocal, AssertFailed}
+use Rattle.op.specs.Chosen.{LoadLocal0, LoadLocal1, LoadLocal2, LoadLocal3, LoadLocal, LoadLocalW, StoreLocal, StoreLocalW}
+use Rattle.op.specs.Chosen.{LoadGlobalCallable, CallBuiltinFunction, CallBuiltinType, CallFunctionKw, CallAttrKw}
 use Rattle.op.specs.Names.{ascii, nameIn, nameOf, joined, begins, nameText, nameStarts, between, nameBy}
 use Rattle.op.specs.declared.Shape.the-variants.{None}
 use Rattle.op.proofs.Listed.{rows}
@@ -94,3 +96,21 @@ pub named : (nameOf Jump ≡ ascii "Jump")
     × (nameOf AssertFailed ≡ ascii "AssertFailed")
 unfolding nameOf rowOf table
 named = (refl, refl, refl, refl, refl, refl, refl, refl, refl, refl, refl)
+
+-- and so are those that calls choose
+pub chosen :
+    (nameOf LoadLocal0 ≡ ascii "LoadLocal0")
+    × (nameOf LoadLocal1 ≡ ascii "LoadLocal1")
+    × (nameOf LoadLocal2 ≡ ascii "LoadLocal2")
+    × (nameOf LoadLocal3 ≡ ascii "LoadLocal3")
+    × (nameOf LoadLocal ≡ ascii "LoadLocal")
+    × (nameOf LoadLocalW ≡ ascii "LoadLocalW")
+    × (nameOf StoreLocal ≡ ascii "StoreLocal")
+    × (nameOf StoreLocalW ≡ ascii "StoreLocalW")
+    × (nameOf LoadGlobalCallable ≡ ascii "LoadGlobalCallable")
+    × (nameOf CallBuiltinFunction ≡ ascii "CallBuiltinFunction")
+    × (nameOf CallBuiltinType ≡ ascii "CallBuiltinType")
+    × (nameOf CallFunctionKw ≡ ascii "CallFunctionKw")
+    × (nameOf CallAttrKw ≡ ascii "CallAttrKw")
+unfolding nameOf rowOf table
+chosen = (refl, refl, refl, refl, refl, refl, refl, refl, refl, refl, refl, refl, refl)

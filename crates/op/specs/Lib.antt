@@ -1,6 +1,7 @@
 pub mod Choice
 pub mod Refusals
 pub mod Opcodes
+pub mod Chosen
 pub mod Shapes
 pub mod Effects
 pub mod Depths
