@@ -39,12 +39,12 @@ mul-m c =
 slice-aggregate-check : tie.Need-slice-aggregate-check
 slice-aggregate-check c =
     let else1 = c .before .before .before in
-    sym (length-take-le _ _ (built-within _ _ _ (sound else1) .0))
+    sym (length-take-le _ _ (omega (arith, built-within _ _ _ (sound else1) .0)))
 
 slice-aggregate-check-2 : tie.Need-slice-aggregate-check-2
 slice-aggregate-check-2 c =
     let else1 = c .before .before .before .before in
-    sym (length-take-le _ _ (built-within _ _ _ (sound else1) .1))
+    sym (length-take-le _ _ (omega (arith, built-within _ _ _ (sound else1) .1)))
 
 check-requires : tie.Need-check-requires
 check-requires c κs = search needs
