@@ -1,24 +1,31 @@
 -- Laws of the promise: how a check keeps it, what callers get from it, and that equal inputs give equal answers and cells.
 -- Assumes nothing.
 use mathlib.Core.Path.{_≡_, refl, sym, ap, subst, _∙_}
+use mathlib.Core.Bool.{true, false, _&&_}
 use mathlib.Core.List.{List, _++_}
 use mathlib.Core.Option.{Option}
-use Prim.Native.Nat.{ℕ, suc, _+_, _≤_, _<_}
+use Prim.Native.Nat.{ℕ, suc, _+_, _*_, _/_, _≤_, _<_}
 use native.Mathlib.Omega.{arith}
 use native.Mathlib.Decide.{decLe}
 use native.Mathlib.Numerals.{add-one}
+use lib.Dec.{leb}
 use lib.ListN.{length, drop, take, replicate}
 use lib.Seq.{ext-getD, length-take-le}
+use borrow.Author.Tests.{leb-true}
 use Rattle.op.specs.declared.Refusal.{Refusal}
-use Rattle.op.specs.declared.Refusal.the-variants.{TooLarge, ShortDepths, BadStarts, NoDepths}
+use Rattle.op.specs.declared.Refusal.the-variants.{TooLarge, Unsound, ShortDepths, BadStarts, NoDepths}
 use Rattle.code.specs.Depths.{Faulty, Assigns, Impossible}
 use Rattle.code.proofs.Assigning.{smallest-agree}
 use Rattle.code.proofs.Counting.{counts-one}
 use Rattle.code.proofs.Places.{fault-one}
+use Rattle.builder.specs.declared.Builder.{Builder}
+use Rattle.builder.specs.Tables.{codeLimit, startCells, rowsIn}
+use Rattle.builder.proofs.Plans.{both}
 use Rattle.checker.specs.declared.Checked.{Checked}
 use Rattle.checker.specs.declared.Checked.the-variants.{Accepted, Refused}
 use Rattle.checker.specs.Cells.{cell, depthIn}
-use Rattle.checker.specs.Promise.{TooLong, NoRoom, Listed, Astray, Solution, Became, Accepts, Unless, stops, passes, Promise}
+use Rattle.checker.specs.Promise.{TooLong, NoRoom, Listed, Astray, Solution, Became, Accepts, Unless, stops, passes, Promise, builtSound, Miscounted, BuiltPromise}
+use Rattle.checker.specs.Statements.{PromiseOne, BuiltOne}
 use Rattle.checker.specs.Inner.{NoFault, Outcome}
 use Rattle.checker.proofs.Holding.{depth-in, in-depth}
 
@@ -74,6 +81,27 @@ module _ (s st d : List ℕ) where
 -- the lent part has a cell for each offset and the end
 pub part-size : (d : List ℕ) (n : ℕ) → n < length d → length (take (n + 1) d) ≡ suc n
 part-size d n l = length-take-le (n + 1) d (omega arith) ∙ add-one n
+
+-- how a check of a builder's code keeps its own
+
+-- sound counts are within what is lent
+pub built-within : (b : Builder) (cl sl : ℕ) → builtSound b cl sl ≡ true → (b .core .code ≤ cl) × (b .starts * startCells ≤ sl)
+unfolding builtSound
+built-within b cl sl e =
+    let p = both (leb (b .core .code) cl && leb (b .core .code) codeLimit) (rowsIn startCells (b .starts) sl) e in
+    let q = both (leb (b .core .code) cl) (leb (b .core .code) codeLimit) (p .0) in
+    let rows = leb-true (b .starts) (sl / startCells) (p .1) in
+    (leb-true _ _ (q .0), omega arith)
+
+module _ (b : Builder) (s st d : List ℕ) where
+  pub built-unsound : builtSound b (length s) (length st) ≡ false → BuiltPromise b s st d d (Refused Unsound)
+  unfolding BuiltPromise
+  built-unsound e = stops Unsound (refl, e) (refl, refl)
+
+  pub built-used : builtSound b (length s) (length st) ≡ true → (d′ : List ℕ) (r : Checked)
+      → Promise (take (b .core .code) s) (take (b .starts * startCells) st) d d′ r → BuiltPromise b s st d d′ r
+  unfolding BuiltPromise
+  built-used e d′ r P = passes (λ q h. let z : _≡_ {A = ℕ} 0 1 = cc (e, h .1) in omega arith) P
 
 -- what callers get from it
 
@@ -138,7 +166,7 @@ module _ {s st c e : List ℕ} {k m : ℕ} (A : Solution s st c k) (B : Solution
   pub solution-count : k ≡ m
   solution-count = counts-one (smallest-agree (A .smallest) (B .smallest)) (A .count) (B .count)
 
-pub promise-one : (s st d d₁ d₂ : List ℕ) (r₁ r₂ : Checked) → Promise s st d d₁ r₁ → Promise s st d d₂ r₂ → (r₁ ≡ r₂) × (d₁ ≡ d₂)
+pub promise-one : PromiseOne
 unfolding Promise
 promise-one s st d d₁ d₂ r₁ r₂ P Q =
     unless-one (λ p q x y. named-one TooLarge p q (x .0) (y .0)) kept
@@ -156,3 +184,9 @@ promise-one s st d d₁ d₂ r₁ r₂ P Q =
         let e = solution-cells (A .solution) (B .solution) in
         let h = solution-count (A .solution) (B .solution) in
         (A .answer ∙ ap Accepted h ∙ sym (B .answer), A .became ∙ ap (λ (c : List ℕ). c ++ drop (suc (length s)) d) e ∙ sym (B .became))
+
+pub built-one : BuiltOne
+unfolding BuiltPromise
+built-one b s st d d₁ d₂ r₁ r₂ P Q =
+    unless-one (λ p q x y. named-one Unsound p q (x .0) (y .0)) (λ q x y. (x .0 ∙ sym (y .0), x .1 ∙ sym (y .1)))
+    (promise-one (take (b .core .code) s) (take (b .starts * startCells) st) d d₁ d₂ r₁ r₂) P Q

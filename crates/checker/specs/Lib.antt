@@ -1,3 +1,4 @@
 pub mod Cells
 pub mod Promise
 pub mod Inner
+pub mod Statements

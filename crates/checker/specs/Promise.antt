@@ -2,14 +2,18 @@
 -- answer.
 -- Assumes nothing.
 use mathlib.Core.Path.{_≡_}
+use mathlib.Core.Bool.{Bool, false, _&&_}
 use mathlib.Core.List.{List, _++_}
 use mathlib.Core.Option.{some}
 use Prim.Native.Nat.{ℕ, suc, _+_, _*_, _%_, _≤_, _<_}
-use lib.ListN.{length, getD, drop, replicate}
+use lib.Dec.{leb}
+use lib.ListN.{length, getD, take, drop, replicate}
 use Rattle.op.specs.Depths.{deepest}
 use Rattle.op.specs.declared.Refusal.{Refusal}
-use Rattle.op.specs.declared.Refusal.the-variants.{TooLarge, ShortDepths, BadStarts, NoDepths}
+use Rattle.op.specs.declared.Refusal.the-variants.{TooLarge, Unsound, ShortDepths, BadStarts, NoDepths}
 use Rattle.code.specs.Depths.{Place, Faulty, Smallest, Impossible, Derived, Counts}
+use Rattle.builder.specs.declared.Builder.{Builder}
+use Rattle.builder.specs.Tables.{codeLimit, startCells, rowsIn}
 use Rattle.checker.specs.declared.Checked.{Checked}
 use Rattle.checker.specs.declared.Checked.the-variants.{Accepted, Refused}
 use Rattle.checker.specs.Cells.{cell, depthIn}
@@ -78,3 +82,17 @@ Promise s st d d′ r =
     (Unless (Astray s st) (Refuses d d′ r)
     (Unless (Unsolved s st) (Blanks s d d′ r)
     (Accepts s st d d′ r)))))
+
+-- 19 of a builder whose code and starts are lent, so many cells each
+unfoldable pub builtSound : Builder → ℕ → ℕ → Bool
+builtSound b cl sl = leb (b .core .code) cl && leb (b .core .code) codeLimit && rowsIn startCells (b .starts) sl
+
+-- 19, "a count exceeds its lent table, the code count 1,048,576"
+abbrev pub Miscounted : Builder → List ℕ → List ℕ → Refusal → Type 0
+Miscounted b s st q = (q ≡ Unsound) × (builtSound b (length s) (length st) ≡ false)
+
+-- the check of a builder's code and starts: 19, then the promise above of the used parts
+unfoldable pub BuiltPromise : Builder → List ℕ → List ℕ → List ℕ → List ℕ → Checked → Type 0
+BuiltPromise b s st d d′ r =
+    Unless (Miscounted b s st) (Refuses d d′ r)
+    (Promise (take (b .core .code) s) (take (b .starts * startCells) st) d d′ r)

@@ -1,5 +1,9 @@
 // The depth checker: whether depths can be given to the instructions of some code, and the smallest such assignment.
-ghost use Rattle.checker.specs.Promise.{Promise};
+ghost use mathlib.Core.Path.{_≡_};
+ghost use Rattle.checker.specs.Promise.{Promise, builtSound, BuiltPromise};
+use builder::Builder;
+use builder::CODE_LIMIT;
+use builder::START_CELLS;
 use op::Refusal;
 
 mod cells;
@@ -13,7 +17,7 @@ mod walks;
 pub enum Checked {
     // how many instructions have a depth
     Accepted(usize),
-    // 10, 21, 1 or 22 with the offset, 20, 23
+    // 10, 21, 1 or 22 with the offset, 20, 23; before them 19, of a builder's counts
     Refused(Refusal),
 }
 
@@ -47,4 +51,31 @@ pub fn check(code: &[u8], starts: &[u32], depths: &mut [u32]) -> Checked
         return solving::solve(code, starts, &mut depths[..end]);
     }
     Checked::Refused(Refusal::BadStarts)
+}
+
+// Whether a builder's counts are within the lent code and starts.
+fn built_sound(built: Builder, cl: usize, sl: usize) -> bool
+    ensures { λ r. ⌜ r ≡ builtSound built cl sl ⌝ }
+{
+    let core = built.core;
+    if cl < core.code {
+        return false;
+    }
+    if CODE_LIMIT < core.code {
+        return false;
+    }
+    built.starts <= sl / START_CELLS
+}
+
+// Checks a builder's used code from its used starts: 19 where a count is unsound, then as `check`.
+pub fn check_built(built: Builder, code: &[u8], starts: &[u32], depths: &mut [u32]) -> Checked
+    ensures { λ r. ⌜ BuiltPromise built (now (code .entry)) (now (starts .entry)) (now (depths .entry)) (now (depths .exit)) r ⌝ }
+{
+    if !built_sound(built, code.len(), starts.len()) {
+        return Checked::Refused(Refusal::Unsound);
+    }
+    let core = built.core;
+    let n = core.code;
+    let m = built.starts * START_CELLS;
+    check(&code[..n], &starts[..m], depths)
 }
