@@ -1,20 +1,22 @@
 -- What a check of the bytes and the starts answers and leaves.
 -- Assumes nothing.
 use mathlib.Core.Path.{_≡_, refl, ap, _∙_}
+use mathlib.Core.Bool.{true}
 use mathlib.Core.Logic.{_↔_}
 use mathlib.Core.List.{List, List·Memᴰ as Mem}
 use mathlib.Core.Option.{Option, some, none}
-use Prim.Native.Nat.{ℕ, suc, _≤_, _<_}
+use Prim.Native.Nat.{ℕ, suc, _*_, _/_, _≤_, _<_}
 use native.Mathlib.Decide.{decLe}
 use native.Mathlib.Omega.{arith}
-use lib.ListN.{length, drop, getD, List·getD-append}
+use lib.ListN.{length, take, drop, getD, List·getD-append}
+use borrow.Author.Tests.{le-leb}
 use Rattle.code.specs.Depths.{Smallest, Derived}
 use Rattle.code.proofs.Assigning.{smallest-agree}
 use Rattle.code.proofs.Counting.{counts-one}
-use Rattle.builder.specs.Tables.{codeLimit}
-use Rattle.builder.specs.declared.Answer.the-variants.{Accepted}
+use Rattle.builder.specs.Tables.{codeLimit, startCells}
+use Rattle.builder.specs.declared.Builder.{Builder}
 use Rattle.checker.specs.Cells.{cell, depthIn}
-use Rattle.checker.specs.Promise.{Promise}
+use Rattle.checker.specs.Promise.{Promise, stops, passes, builtSound, BuiltPromise}
 use Rattle.checker.specs.declared.Checked.{Checked}
 use Rattle.checker.specs.declared.Checked.the-variants as C
 use Rattle.checker.proofs.Holding.{depth-in, in-depth}
@@ -60,3 +62,22 @@ module _ (b : Book isa) (g : Good isa laws b) (closed : (r : Row isa) → Mem r 
     pub checked-at : b .len ≤ codeLimit → (d d′ : List ℕ) (r : Checked) → n < length d → Promise s st d d′ r
         → (r ≡ C.Accepted (length (b .rows))) × ((o : ℕ) → o ≤ n → cell d′ o ≡ cellOf (depthAt isa (b .rows) n (b .cur) o))
     checked-at short = rw (es, et, en) (checked short)
+
+-- a builder whose counts are sound is checked by its used code and starts
+
+built-sound : (b : Builder) (s st : List ℕ) → b .core .code ≤ length s → b .core .code ≤ codeLimit → b .starts * startCells ≤ length st
+    → builtSound b (length s) (length st) ≡ true
+unfolding builtSound
+built-sound b s st c l h =
+    rw (le-leb (b .core .code) (length s) c, le-leb (b .core .code) codeLimit l, le-leb (b .starts) (length st / startCells) (omega arith)) refl
+
+pub built-promise : (b : Builder) (s st d d′ : List ℕ) (r : Checked) → b .core .code ≤ length s → b .core .code ≤ codeLimit
+    → b .starts * startCells ≤ length st → BuiltPromise b s st d d′ r
+    → Promise (take (b .core .code) s) (take (b .starts * startCells) st) d d′ r
+unfolding BuiltPromise
+built-promise b s st d d′ r c l h (stops q p a) =
+    let t = built-sound b s st c l h in
+    let f = p .1 in
+    let z : _≡_ {A = ℕ} 0 1 = cc in
+    absurd (omega arith)
+built-promise b s st d d′ r c l h (passes n P) = P

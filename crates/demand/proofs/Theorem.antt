@@ -1,8 +1,8 @@
 -- Demand 3, proved: specs/Demand.antt has the statement.
 -- Assumes nothing.
 use mathlib.Core.Path.{_≡_, sym, ap, _∙_}
-use mathlib.Core.List.{List·Memᴰ as Mem}
-use Prim.Native.Nat.{ℕ, _≤_}
+use mathlib.Core.List.{List, List·Memᴰ as Mem}
+use Prim.Native.Nat.{ℕ, _≤_, _<_}
 use native.Mathlib.Omega.{arith}
 use lib.ListN.{length}
 use lib.Seq.{length-take-le}
@@ -11,11 +11,13 @@ use Rattle.builder.specs.Tables.{codeLimit}
 use Rattle.builder.specs.declared.Answer.the-variants.{Accepted}
 use Rattle.builder.specs.declared.Depth.{Depth}
 use Rattle.builder.specs.declared.Depth.the-variants.{Dead, Live}
+use Rattle.checker.specs.Promise.{Promise}
+use Rattle.checker.specs.declared.Checked.{Checked}
 use Rattle.demand.specs.Machine.{isa}
 use Rattle.demand.specs.History.{ok, waits, leap, Row, History, blank}
 use Rattle.demand.specs.Calls.{build}
 use Rattle.demand.specs.World.{World, Made}
-use Rattle.demand.specs.Demand.{InDepth, begun, finished, regionStarts, cells, Demand, Demanded}
+use Rattle.demand.specs.Demand.{InDepth, begun, finished, regionStarts, cells, Accepts, Demand, Demanded}
 use Rattle.demand.proofs.Bytes.{bytesOf, reads-rows, depth-row, Closed}
 use Rattle.demand.proofs.Machining.{laws}
 use Rattle.demand.proofs.Pairs.{cells-tab}
@@ -24,7 +26,7 @@ use Rattle.demand.proofs.Within.{new-within}
 use Rattle.demand.proofs.Ties.{Tied, Small, book, fresh, fresh-tied, tied-end}
 use Rattle.demand.proofs.Steps.{Within, view, taken-tied}
 use Rattle.demand.proofs.Building.{Builds, builds, open-any, closed-by}
-use Rattle.demand.proofs.Answering.{smallest-at, derived-at, checked-at}
+use Rattle.demand.proofs.Answering.{smallest-at, derived-at, checked-at, built-promise}
 
 module _ (w w′ : World) (h : History) (t : Tied (view w) h) (B : Builds w w′) where
   -- every label is patched
@@ -49,6 +51,8 @@ finish w w′ h i t B =
     let es : regionStarts w ≡ cells (view w .starts) = cells-tab (w .state .starts) (w .starts) (i .starts) in
     let en : length (finished w) ≡ h .end = tied-end (view w) h t in
     let short : h .end ≤ codeLimit = omega (arith, B .limit, length-take-le (w .state .core .code) (w .code) (i .code)) in
+    let accepts : (d d′ : List ℕ) (r : Checked) → length (finished w′) < length d → Promise (finished w′) (regionStarts w′) d d′ r → Accepts w′ h r d′ =
+    rw (B .state, B .code, B .starts) (checked-at b g c (finished w) (regionStarts w) (length (finished w)) ec es en short) in
     record {
       unchanged = (B .state, B .code, B .starts);
       reads = rw (B .state, B .code, ec) (reads-rows isa laws (h .end) (h .rows) (g .chain) c);
@@ -57,7 +61,11 @@ finish w w′ h i t B =
       before = λ r m. rw (B .state, B .code, en) (depth-row isa laws 0 (h .rows) (h .end) (w .state .core .depth) r (g .chain) m);
       smallest = rw (B .state, B .code, B .starts) (smallest-at b g c (finished w) (regionStarts w) (length (finished w)) ec es en);
       derived = rw (B .state, B .code, B .starts) (derived-at b g c (finished w) (regionStarts w) (length (finished w)) ec es en);
-      checks = rw (B .state, B .code, B .starts) (checked-at b g c (finished w) (regionStarts w) (length (finished w)) ec es en short);
+      checks = λ κs code starts entry exit r k room. accepts (entry .now) (exit .now) r room (rw (code .holds, starts .holds) at k);
+      checks-built = λ κs code starts entry exit r k room.
+          accepts (entry .now) (exit .now) r room (rw (B .state, B .code, B .starts) (
+          built-promise (w .state) (w .code) (w .starts) (entry .now) (exit .now) r (i .code) (B .limit) (i .starts)
+          (rw (code .holds, starts .holds, B .state, B .code, B .starts) at k)));
     }
 
 small : (told : Depth) → InDepth told → Small told

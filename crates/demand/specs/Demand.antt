@@ -17,14 +17,15 @@ use Rattle.builder.specs.declared.Depth.{Depth}
 use Rattle.builder.specs.declared.Depth.the-variants.{Dead, Live}
 use Rattle.builder.proofs.Builder.new.Reads.{Learnt as new-says}
 use Rattle.checker.specs.Cells.{cell}
-use Rattle.checker.specs.Promise.{Promise}
 use Rattle.checker.specs.declared.Checked.{Checked}
 use Rattle.checker.specs.declared.Checked.the-variants as C
+use Rattle.checker.proofs.check.Reads.{Learnt as check-says}
+use Rattle.checker.proofs.check_built.Reads.{Learnt as check-built-says}
 use Rattle.demand.specs.Isa.{reading}
 use Rattle.demand.specs.Machine.{isa}
 use Rattle.demand.specs.History.{ok, waits, leap, Row, program, depthAt, History, blank}
 use Rattle.demand.specs.Calls.{U16, build}
-use Rattle.demand.specs.World.{World, Slice, Made, Run, Taken}
+use Rattle.demand.specs.World.{World, Slice, Holding, Made, Run, Taken}
 
 -- the depth that a new builder is told
 abbrev pub InDepth : Depth → Type 0
@@ -66,6 +67,11 @@ abbrev pub cellOf : Option ℕ → ℕ
 cellOf none = 65536
 cellOf (some d) = d
 
+-- a check accepts, with these depths in its cells, and counts as many instructions as the history has
+abbrev pub Accepts : World → History → Checked → List ℕ → Type 0
+Accepts w h r checked =
+    (r ≡ C.Accepted (length (h .rows))) × ((o : ℕ) → o ≤ length (finished w) → cell checked o ≡ cellOf (depths w h o))
+
 -- of the world w that the calls left, the world w′ behind `build`, and the history h of the calls
 pub record Demand (w w′ : World) (h : History) : Type 0 where
   -- `build` leaves the state, the code and the starts as they were
@@ -81,9 +87,14 @@ pub record Demand (w w′ : World) (h : History) : Type 0 where
   -- "the depths derived from those bytes and the region starts alone": the smallest assignment, and just what paths from the starts lead to
   pub smallest : Smallest (finished w′) (regionStarts w′) (depths w′ h)
   pub derived : (o d : ℕ) → (depths w′ h o ≡ some d) ↔ Derived (finished w′) (regionStarts w′) o d
-  -- so a check of those bytes and starts accepts, with those depths and with as many instructions
-  pub checks : (d d′ : List ℕ) (r : Checked) → length (finished w′) < length d → Promise (finished w′) (regionStarts w′) d d′ r
-      → (r ≡ C.Accepted (length (h .rows))) × ((o : ℕ) → o ≤ length (finished w′) → cell d′ o ≡ cellOf (depths w′ h o))
+  -- so `check` of those bytes and starts accepts where its cells have room, by its contract
+  pub checks : (κs : Lfts 3) (code : Holding (finished w′)) (starts : Holding (regionStarts w′)) (entry exit : Slice) (r : Checked)
+      → check-says κs (code .slice, (starts .slice, (entry, tt))) r (code .slice, (starts .slice, (exit, tt)))
+      → length (finished w′) < length (entry .now) → Accepts w′ h r (exit .now)
+  -- and so does `check_built` of the builder and its tables
+  pub checks-built : (κs : Lfts 3) (code : Holding (w′ .code)) (starts : Holding (w′ .starts)) (entry exit : Slice) (r : Checked)
+      → check-built-says κs (w′ .state, (code .slice, (starts .slice, (entry, tt)))) r (w′ .state, (code .slice, (starts .slice, (exit, tt))))
+      → length (finished w′) < length (entry .now) → Accepts w′ h r (exit .now)
 
 -- the demand: of every fresh builder, all calls taken from there, and a `build` that is accepted
 abbrev pub Demanded : Type 0
