@@ -6,7 +6,7 @@ use std::{
     fmt::Write as _,
     fs::{self, File},
     path::PathBuf,
-    process::{self, Command},
+    process,
 };
 
 use crate::{
@@ -45,7 +45,7 @@ impl Run {
     fn one(&self, tally: &mut Tally, what: &str, code: &[u8]) {
         fs::write(&self.file, code).expect("the input is written");
         let stdin = File::open(&self.file).expect("the input is there");
-        let output = Command::new(&self.program)
+        let output = script::command(&self.program)
             .stdin(stdin)
             .output()
             .expect("the program runs");

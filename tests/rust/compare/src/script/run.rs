@@ -2,7 +2,7 @@
 
 use std::{
     collections::BTreeMap,
-    fmt, fs,
+    env, fmt, fs,
     io::Write as _,
     path::{Path, PathBuf},
     process::{self, Command, Stdio},
@@ -64,6 +64,18 @@ pub fn program_at(name: &str) -> PathBuf {
     program
 }
 
+/// A command that runs a program: by the emulator that runs this one, if there is one (tools/x86).
+pub fn command(program: &Path) -> Command {
+    match env::var_os("TOKENFINCH_RUNNER") {
+        Some(emulator) => {
+            let mut command = Command::new(emulator);
+            command.arg(program);
+            command
+        }
+        None => Command::new(program),
+    }
+}
+
 /// The script that rt runs with the program, and the answers that are stored for it.
 pub fn stored() -> (Vec<u8>, Vec<u8>) {
     let read = |name: &str| fs::read(root().join("crates/replay").join(name)).expect("the stored script is there");
@@ -112,7 +124,7 @@ impl Script {
 }
 
 fn answers(program: &Path, text: &[u8]) -> String {
-    let mut child = Command::new(program)
+    let mut child = command(program)
         .stdin(Stdio::piped())
         .stdout(Stdio::piped())
         .stderr(Stdio::piped())
