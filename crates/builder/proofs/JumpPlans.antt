@@ -25,15 +25,15 @@ use Rattle.builder.specs.declared.Depth.the-variants.{Dead, Live}
 use Rattle.builder.specs.declared.JumpTarget.{JumpTarget}
 use Rattle.builder.specs.declared.JumpTarget.the-variants as T
 use Rattle.builder.specs.declared.Location.{Location}
-use Rattle.builder.specs.declared.Mark.{Mark}
-use Rattle.builder.specs.declared.Mark.the-variants.{Absent, Open, Patched, Target}
-use Rattle.builder.specs.declared.Plan.{Plan}
-use Rattle.builder.specs.declared.Plan.the-variants.{Idle, Refuse, Go}
+use Rattle.builder.specs.declared.marks.Mark.{Mark}
+use Rattle.builder.specs.declared.marks.Mark.the-variants.{Absent, Open, Patched, Target}
+use Rattle.builder.specs.declared.plan.Plan.{Plan}
+use Rattle.builder.specs.declared.plan.Plan.the-variants.{Idle, Refuse, Go}
 use Rattle.builder.specs.Tables.{markCells, rowsIn, rowFree}
 use Rattle.builder.specs.Plan.{guard, soundOf, Sound, liveOf, Goes}
 use Rattle.builder.specs.Marks.{markAt, markIn, targetMark, markSound, near, bits}
-use Rattle.builder.specs.Jumps.{unpatched, takenPlan, jumpDepth, jumpPlanOf, JumpGoes, commitJump, emitJumpOf}
-use Rattle.builder.specs.Jumps.{jumpBy, spotOf, aimOf, toLiveOf, toDepth, toPlanOf, commitTo, jumpToCore}
+use Rattle.builder.specs.Forward.{unpatched, takenPlan, jumpDepth, jumpPlanOf, JumpGoes, commitJump, emitJumpOf}
+use Rattle.builder.specs.Forward.{jumpBy, spotOf, aimOf, toLiveOf, toDepth, toPlanOf, commitTo, jumpToCore}
 use Rattle.builder.proofs.Plans.{both, sound-true, guard-go, also-go, LiveGoes, live-goes, goes-by}
 
 -- what a plan comes to

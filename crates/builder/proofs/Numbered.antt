@@ -3,7 +3,7 @@
 use mathlib.Core.Path.{_≡_, refl}
 use Prim.Native.String.{String}
 use Rattle.op.specs.Opcodes.{Row, op, table, rowOf, RaiseUnboundLocal}
-use Rattle.builder.specs.Emit.{LoadLocal0, LoadLocal, LoadLocalW, StoreLocal, StoreLocalW, LoadGlobalCallable, CallBuiltinFunction, CallBuiltinType, CallFunctionKw, CallAttrKw}
+use Rattle.builder.specs.Emission.{LoadLocal0, LoadLocal, LoadLocalW, StoreLocal, StoreLocalW, LoadGlobalCallable, CallBuiltinFunction, CallBuiltinType, CallFunctionKw, CallAttrKw}
 
 abbrev nameIn : Row → String
 nameIn (op name shape rule) = name

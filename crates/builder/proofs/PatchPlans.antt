@@ -14,10 +14,10 @@ use Rattle.builder.specs.declared.Core.{Core}
 use Rattle.builder.specs.declared.Depth.{Depth}
 use Rattle.builder.specs.declared.JumpLabel.{JumpLabel}
 use Rattle.builder.specs.declared.JumpLabel.the-variants as L
-use Rattle.builder.specs.declared.Mark.{Mark}
-use Rattle.builder.specs.declared.Mark.the-variants.{Absent, Open, Patched, Target}
-use Rattle.builder.specs.declared.Plan.{Plan}
-use Rattle.builder.specs.declared.Plan.the-variants.{Go}
+use Rattle.builder.specs.declared.marks.Mark.{Mark}
+use Rattle.builder.specs.declared.marks.Mark.the-variants.{Absent, Open, Patched, Target}
+use Rattle.builder.specs.declared.plan.Plan.{Plan}
+use Rattle.builder.specs.declared.plan.Plan.the-variants.{Go}
 use Rattle.builder.specs.Tables.{codeLimit, markCells, wordMax}
 use Rattle.builder.specs.Plan.{guard}
 use Rattle.builder.specs.Marks.{markIn, fits, markSound, markable, Markable, near, bits, meets, revived}

@@ -27,8 +27,8 @@ use Rattle.builder.specs.declared.Core.{Core}
 use Rattle.builder.specs.declared.Depth.{Depth}
 use Rattle.builder.specs.declared.Depth.the-variants.{Dead, Live}
 use Rattle.builder.specs.declared.Location.{Location}
-use Rattle.builder.specs.declared.Plan.{Plan}
-use Rattle.builder.specs.declared.Plan.the-variants.{Idle, Refuse, Go}
+use Rattle.builder.specs.declared.plan.Plan.{Plan}
+use Rattle.builder.specs.declared.plan.Plan.the-variants.{Idle, Refuse, Go}
 use Rattle.builder.specs.Tables.{codeLimit, locationCells, wordMax}
 use Rattle.builder.specs.Plan.{guard, soundOf, Sound, rowFits, alsoRow, roomOf, behind, fallenOf, bytesOf, liveOf, depthOf, planOf, Goes}
 

@@ -1,7 +1,7 @@
 pub mod Tables
 pub mod Plan
-pub mod Emit
+pub mod Emission
 pub mod Marks
-pub mod Jumps
+pub mod Forward
 pub mod Patch
 pub mod Calls

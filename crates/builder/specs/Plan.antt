@@ -25,8 +25,8 @@ use Rattle.builder.specs.declared.Depth.{Depth}
 use Rattle.builder.specs.declared.Depth.the-variants.{Dead, Live}
 use Rattle.builder.specs.declared.Location.{Location}
 use Rattle.builder.specs.declared.Location.the-variants.{Unset, Set}
-use Rattle.builder.specs.declared.Plan.{Plan}
-use Rattle.builder.specs.declared.Plan.the-variants.{Idle, Refuse, Go}
+use Rattle.builder.specs.declared.plan.Plan.{Plan}
+use Rattle.builder.specs.declared.plan.Plan.the-variants.{Idle, Refuse, Go}
 use Rattle.builder.specs.Tables.{codeLimit, locationCells, wordMax, rowsIn, rowFree}
 
 -- go on where the test holds, else refuse

@@ -2,8 +2,8 @@
 // The modules behind hold what they share.
 ghost use Prim.Native.Nat.{_%_};
 ghost use Rattle.builder.specs.Calls.{addConstOf, addExceptionOf, addedKept, buildOf, deadOf, kept, newOf, positionOf, regionOf, registerNameOf, registerNamesOf, withLocation};
-ghost use Rattle.builder.specs.Emit.{CallAttrKw, CallBuiltinFunction, CallBuiltinType, CallFunctionKw, LoadGlobalCallable, emitNamed, emitOf, loadOp, loadOperand, outcome, storeOp, storeOperand};
-ghost use Rattle.builder.specs.Jumps.{emitJumpOf, emitJumpToOf, jumpOutcome, targetOf, targetOutcome};
+ghost use Rattle.builder.specs.Emission.{CallAttrKw, CallBuiltinFunction, CallBuiltinType, CallFunctionKw, LoadGlobalCallable, emitNamed, emitOf, loadOp, loadOperand, outcome, storeOp, storeOperand};
+ghost use Rattle.builder.specs.Forward.{emitJumpOf, emitJumpToOf, jumpOutcome, targetOf, targetOutcome};
 ghost use Rattle.builder.specs.Patch.{patchJumpOf, patchOutcome};
 ghost use Rattle.op.specs.Opcodes.{RaiseUnboundLocal};
 ghost use lib.ListN.{length};
@@ -20,22 +20,22 @@ use crate::JumpTarget;
 use crate::Jumped;
 use crate::Location;
 use crate::MARK_CELLS;
-use crate::Plan;
 use crate::START_CELLS;
 use crate::Targeted;
 use crate::WORD_MAX;
-use crate::aiming;
-use crate::emitting;
+use crate::back;
+use crate::emission;
 use crate::entries;
-use crate::jumping;
+use crate::forward;
 use crate::jumps;
-use crate::marking;
+use crate::marks;
 use crate::names;
 use crate::narrowing;
-use crate::patching;
+use crate::patch;
+use crate::plan::Plan;
 use crate::regions;
-use crate::states;
-use crate::store;
+use crate::state;
+use crate::tables;
 use code::CodeRange;
 use code::Focus;
 use code::HandlerKind;
@@ -55,7 +55,7 @@ impl Builder {
         if starts.len() / START_CELLS <= 0 {
             return Answer::Refused(Refusal::Full(Table::Starts));
         }
-        store::row2(starts, 0, d as u32);
+        tables::row2(starts, 0, d as u32);
         Answer::Accepted(regions::fresh_at(Depth::Live(d), 1))
     }
 
@@ -78,19 +78,19 @@ impl Builder {
     pub fn emit(self, opcode: u8, code: &mut [u8], locations: &mut [u32]) -> Answer
         ensures { λ r. ⌜ outcome r (now (code .exit)) (now (locations .exit)) ≡ emitOf self opcode Operand.None [] (now (code .entry)) (now (locations .entry)) ⌝ }
     {
-        emitting::emit_with_operand(self, opcode, 0, Operand::None, code, locations)
+        emission::emit_with_operand(self, opcode, 0, Operand::None, code, locations)
     }
 
     pub fn emit_u8(self, opcode: u8, operand: u8, code: &mut [u8], locations: &mut [u32]) -> Answer
         ensures { λ r. ⌜ outcome r (now (code .exit)) (now (locations .exit)) ≡ emitOf self opcode (Operand.U8 operand) [] (now (code .entry)) (now (locations .entry)) ⌝ }
     {
-        emitting::emit_with_operand(self, opcode, 0, Operand::U8(operand), code, locations)
+        emission::emit_with_operand(self, opcode, 0, Operand::U8(operand), code, locations)
     }
 
     pub fn emit_i8(self, opcode: u8, operand: i8, code: &mut [u8], locations: &mut [u32]) -> Answer
         ensures { λ r. ⌜ outcome r (now (code .exit)) (now (locations .exit)) ≡ emitOf self opcode (Operand.I8 operand) [] (now (code .entry)) (now (locations .entry)) ⌝ }
     {
-        emitting::emit_with_operand(self, opcode, 0, Operand::I8(operand), code, locations)
+        emission::emit_with_operand(self, opcode, 0, Operand::I8(operand), code, locations)
     }
 
     // Used for UnpackEx: the counts before and after.
@@ -104,7 +104,7 @@ impl Builder {
     ) -> Answer
         ensures { λ r. ⌜ outcome r (now (code .exit)) (now (locations .exit)) ≡ emitOf self opcode (Operand.U8U8 operand1 operand2) [] (now (code .entry)) (now (locations .entry)) ⌝ }
     {
-        emitting::emit_with_operand(
+        emission::emit_with_operand(
             self,
             opcode,
             0,
@@ -123,7 +123,7 @@ impl Builder {
     ) -> Answer
         ensures { λ r. ⌜ outcome r (now (code .exit)) (now (locations .exit)) ≡ emitOf self opcode (Operand.U16 operand) [] (now (code .entry)) (now (locations .entry)) ⌝ }
     {
-        emitting::emit_with_operand(self, opcode, 0, Operand::U16(operand), code, locations)
+        emission::emit_with_operand(self, opcode, 0, Operand::U16(operand), code, locations)
     }
 
     // Used for LoadSubmodule: the attribute and the dotted path.
@@ -137,7 +137,7 @@ impl Builder {
     ) -> Answer
         ensures { λ r. ⌜ outcome r (now (code .exit)) (now (locations .exit)) ≡ emitOf self opcode (Operand.U16U16 operand1 operand2) [] (now (code .entry)) (now (locations .entry)) ⌝ }
     {
-        emitting::emit_with_operand(
+        emission::emit_with_operand(
             self,
             opcode,
             0,
@@ -158,7 +158,7 @@ impl Builder {
     ) -> Answer
         ensures { λ r. ⌜ outcome r (now (code .exit)) (now (locations .exit)) ≡ emitOf self opcode (Operand.U16U8 operand1 operand2) [] (now (code .entry)) (now (locations .entry)) ⌝ }
     {
-        emitting::emit_with_operand(
+        emission::emit_with_operand(
             self,
             opcode,
             0,
@@ -180,7 +180,7 @@ impl Builder {
     ) -> Answer
         ensures { λ r. ⌜ outcome r (now (code .exit)) (now (locations .exit)) ≡ emitOf self opcode (Operand.U16U8U8 operand1 operand2 operand3) [] (now (code .entry)) (now (locations .entry)) ⌝ }
     {
-        emitting::emit_with_operand(
+        emission::emit_with_operand(
             self,
             opcode,
             0,
@@ -231,7 +231,7 @@ impl Builder {
         ensures { λ r. ⌜ outcome r (now (code .exit)) (now (locations .exit)) ≡ emitOf self CallFunctionKw (Operand.CallKw positional (length (now (kwnames .entry)) % 256)) (now (kwnames .entry)) (now (code .entry)) (now (locations .entry)) ⌝ }
     {
         let names = narrowing::count_byte(kwnames.len());
-        emitting::emit_with_names(
+        emission::emit_with_names(
             self,
             opcodes::CALL_FUNCTION_KW,
             Operand::CallKw { positional, names },
@@ -253,7 +253,7 @@ impl Builder {
         ensures { λ r. ⌜ outcome r (now (code .exit)) (now (locations .exit)) ≡ emitOf self CallAttrKw (Operand.CallAttrKw attribute positional (length (now (kwnames .entry)) % 256)) (now (kwnames .entry)) (now (code .entry)) (now (locations .entry)) ⌝ }
     {
         let names = narrowing::count_byte(kwnames.len());
-        emitting::emit_with_names(
+        emission::emit_with_names(
             self,
             opcodes::CALL_ATTR_KW,
             Operand::CallAttrKw {
@@ -279,7 +279,7 @@ impl Builder {
     {
         let core = self.core;
         let location = self.location;
-        let plan = jumping::decide_jump(
+        let plan = forward::decide_jump(
             core,
             location,
             opcode,
@@ -292,7 +292,7 @@ impl Builder {
             Plan::Refuse(refusal) => Jumped::Refused(refusal),
             Plan::Go(after, t, size) => {
                 let row = core.marks;
-                let next = jumping::commit_jump(
+                let next = forward::commit_jump(
                     core,
                     location,
                     opcode,
@@ -303,7 +303,7 @@ impl Builder {
                     locations,
                     marks,
                 );
-                Jumped::Made(states::with_core(self, next), JumpLabel::Row(row))
+                Jumped::Made(state::with_core(self, next), JumpLabel::Row(row))
             }
         }
     }
@@ -313,20 +313,20 @@ impl Builder {
         ensures { λ r. ⌜ patchOutcome r (now (code .exit)) (now (marks .exit)) ≡ patchJumpOf self label (now (code .entry)) (now (marks .entry)) ⌝ }
     {
         let core = self.core;
-        if !marking::counts_sound(core, code.len(), marks.len()) {
+        if !marks::counts_sound(core, code.len(), marks.len()) {
             return Answer::Refused(Refusal::Unsound);
         }
         let JumpLabel::Row(i) = label else {
             return Answer::Accepted(self);
         };
-        let mark = marking::mark_in(core.marks, marks, i);
-        let plan = patching::decide_mark(mark, core);
+        let mark = marks::mark_in(core.marks, marks, i);
+        let plan = patch::decide_mark(mark, core);
         match plan {
             Plan::Idle => Answer::Accepted(self),
             Plan::Refuse(refusal) => Answer::Refused(refusal),
             Plan::Go(after, w, offset) => {
-                let next = patching::commit_patch(core, i, offset, w, after, code, marks);
-                Answer::Accepted(states::with_core(self, next))
+                let next = patch::commit_patch(core, i, offset, w, after, code, marks);
+                Answer::Accepted(state::with_core(self, next))
             }
         }
     }
@@ -345,11 +345,11 @@ impl Builder {
         let core = self.core;
         let location = self.location;
         let JumpTarget::Row(row) = target else {
-            let refused = aiming::jump_nowhere(core, location, opcode, code, locations, marks);
-            return states::answer_by(self, refused);
+            let refused = back::jump_nowhere(core, location, opcode, code, locations, marks);
+            return state::answer_by(self, refused);
         };
-        let answer = aiming::jump_to_core(core, location, opcode, row, code, locations, marks);
-        states::answer_by(self, answer)
+        let answer = back::jump_to_core(core, location, opcode, row, code, locations, marks);
+        state::answer_by(self, answer)
     }
 
     // The offset of the next instruction.
@@ -445,7 +445,7 @@ impl Builder {
         ensures { λ r. ⌜ outcome r (now (code .exit)) (now (locations .exit)) ≡ emitNamed self RaiseUnboundLocal name (Operand.U16 (name % 65536)) [] (now (code .entry)) (now (locations .entry)) ⌝ }
     {
         let word = narrowing::name_word(name);
-        emitting::emit_with_operand(
+        emission::emit_with_operand(
             self,
             opcodes::RAISE_UNBOUND_LOCAL,
             name,
@@ -479,7 +479,7 @@ impl Builder {
         ensures { λ r. ⌜ outcome r (now (code .exit)) (now (locations .exit)) ≡ emitNamed self LoadGlobalCallable name (Operand.U16U16 slot (name % 65536)) [] (now (code .entry)) (now (locations .entry)) ⌝ }
     {
         let word = narrowing::name_word(name);
-        emitting::emit_with_operand(
+        emission::emit_with_operand(
             self,
             opcodes::LOAD_GLOBAL_CALLABLE,
             name,
@@ -502,7 +502,7 @@ impl Builder {
         ensures { λ r. ⌜ outcome r (now (code .exit)) (now (locations .exit)) ≡ emitNamed self opcode name (Operand.U16U16U8 slot (name % 65536) flags) [] (now (code .entry)) (now (locations .entry)) ⌝ }
     {
         let word = narrowing::name_word(name);
-        emitting::emit_with_operand(
+        emission::emit_with_operand(
             self,
             opcode,
             name,
@@ -540,7 +540,7 @@ impl Builder {
         if constants.len() <= row {
             return Added::Refused(Refusal::Full(Table::Constants));
         }
-        store::row1(&mut constants[row..], value);
+        tables::row1(&mut constants[row..], value);
         Added::Made(entries::with_constants(self, row + 1), row as u16)
     }
 
@@ -572,7 +572,7 @@ impl Builder {
             return Answer::Refused(Refusal::Full(Table::Exceptions));
         }
         let base = row * EXCEPTION_CELLS;
-        store::row6(
+        tables::row6(
             &mut exceptions[base..],
             start as u32,
             end as u32,

@@ -1,6 +1,6 @@
 // A target's mark.
 ghost use Prim.Native.Nat.{_≤_, _<_, _/_};
-ghost use Rattle.builder.specs.Jumps.{targetOutcome, targetAt};
+ghost use Rattle.builder.specs.Forward.{targetOutcome, targetAt};
 ghost use Rattle.builder.specs.Tables.{codeLimit};
 ghost use mathlib.Core.Path.{_≡_};
 use crate::Builder;
@@ -9,9 +9,9 @@ use crate::Depth;
 use crate::JumpTarget;
 use crate::MARK_CELLS;
 use crate::Targeted;
-use crate::marking;
-use crate::states;
-use crate::store;
+use crate::marks;
+use crate::state;
+use crate::tables;
 use op::Refusal;
 use op::Table;
 
@@ -27,7 +27,7 @@ pub fn mark_target(b: Builder, d: u16, marks: &mut [u32]) -> Targeted
     }
     let base = row * MARK_CELLS;
     let at = core.code;
-    store::row4(&mut marks[base..], marking::TARGET, at as u32, d as u32, 0);
+    tables::row4(&mut marks[base..], marks::TARGET, at as u32, d as u32, 0);
     let depth = core.depth;
     let next = Core {
         code: at,
@@ -35,5 +35,5 @@ pub fn mark_target(b: Builder, d: u16, marks: &mut [u32]) -> Targeted
         marks: row + 1,
         depth,
     };
-    Targeted::Made(states::with_core(b, next), JumpTarget::Row(row))
+    Targeted::Made(state::with_core(b, next), JumpTarget::Row(row))
 }

@@ -4,20 +4,20 @@ use code::CodeRange;
 use code::Focus;
 use op::Refusal;
 
-mod aiming;
+mod back;
 mod calls;
-mod deciding;
-mod emitting;
+mod emission;
 mod entries;
-mod jumping;
+mod forward;
 mod jumps;
-mod marking;
+mod marks;
 mod names;
 mod narrowing;
-mod patching;
+mod patch;
+mod plan;
 mod regions;
-mod states;
-mod store;
+mod state;
+mod tables;
 
 // How much of the lent code can be used.
 pub const CODE_LIMIT: usize = 1048576;
@@ -99,27 +99,4 @@ pub enum Targeted {
 pub enum Added {
     Made(Builder, u16),
     Refused(Refusal),
-}
-
-// The same of the core alone.
-pub enum CoreAnswer {
-    Accepted(Core),
-    Refused(Refusal),
-}
-
-// What a call is to do: nothing, in dead code; refuse; or write.
-pub enum Plan {
-    Idle,
-    Refuse(Refusal),
-    // the depth then; a jump's taken depth or displacement, 0 elsewhere; and the size of the instruction, or the offset of
-    // the jump to patch. The number stands last, where a refusal has its own: else a plan is copied in halves
-    Go(Depth, u16, usize),
-}
-
-// A used mark with its offset and depth. Absent: the row is not used, or of no kind.
-pub enum Mark {
-    Absent,
-    Open(u32, u32),
-    Patched(u32, u32),
-    Target(u32, u32),
 }

@@ -8,7 +8,7 @@ ghost use Rattle.builder.specs.Tables.{markCells};
 ghost use Rattle.builder.specs.Calls.{nameCell, named, extension, withNames, anyOpen};
 use crate::Builder;
 use crate::MARK_CELLS;
-use crate::marking;
+use crate::marks;
 
 // The state with so many names.
 pub fn with_names(b: Builder, names: usize) -> Builder
@@ -77,7 +77,7 @@ pub fn any_open(rows: usize, marks: &[u32]) -> bool
     let mut found = false;
     while i < rows {
         let base = i * MARK_CELLS;
-        found = found | (marks[base] == marking::OPEN);
+        found = found | (marks[base] == marks::OPEN);
         i += 1;
     }
     found

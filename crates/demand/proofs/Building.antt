@@ -17,7 +17,7 @@ use Rattle.builder.specs.Marks.{openKind, markOf, markAt}
 use Rattle.builder.specs.Tables.{codeLimit, markCells, rowsIn}
 use Rattle.builder.specs.declared.Answer.the-variants.{Accepted, Refused}
 use Rattle.builder.specs.declared.Builder.{Builder}
-use Rattle.builder.specs.declared.Mark.the-variants.{Absent, Open, Patched, Target}
+use Rattle.builder.specs.declared.marks.Mark.the-variants.{Absent, Open, Patched, Target}
 use Rattle.demand.specs.Machine.{isa}
 use Rattle.demand.specs.History.{waits, to, What, one, leap}
 use Rattle.demand.proofs.Lists.{nth-cases}

@@ -15,8 +15,8 @@ use Rattle.op.specs.declared.Operand.the-variants as O
 use Rattle.code.specs.Bytes.{signed}
 use Rattle.code.specs.Encode.{encode}
 use Rattle.builder.specs.Calls.{freshAt, newOf, regionOf, anyOpen, buildOf}
-use Rattle.builder.specs.Emit.{emitCore, emitNamed}
-use Rattle.builder.specs.Jumps.{jumpPlanOf, emitJumpOf, toLiveOf, toPlanOf, jumpToCore, emitJumpToOf, targetOf}
+use Rattle.builder.specs.Emission.{emitCore, emitNamed}
+use Rattle.builder.specs.Forward.{jumpPlanOf, emitJumpOf, toLiveOf, toPlanOf, jumpToCore, emitJumpToOf, targetOf}
 use Rattle.builder.specs.Marks.{markOf, markIn, fits, markable, near, bits}
 use Rattle.builder.specs.Patch.{markPlanOf, patchPlanOf, patchJumpOf}
 use Rattle.builder.specs.Plan.{soundOf, roomOf, behind, bytesOf, liveOf, planOf}

@@ -15,14 +15,14 @@ use Rattle.builder.specs.declared.Depth.{Depth}
 use Rattle.builder.specs.declared.JumpLabel.{JumpLabel}
 use Rattle.builder.specs.declared.JumpLabel.the-variants as L
 use Rattle.builder.specs.declared.JumpTarget.{JumpTarget}
-use Rattle.builder.specs.declared.Plan.{Plan}
-use Rattle.builder.specs.declared.Plan.the-variants.{Idle, Refuse, Go}
+use Rattle.builder.specs.declared.plan.Plan.{Plan}
+use Rattle.builder.specs.declared.plan.Plan.the-variants.{Idle, Refuse, Go}
 use Rattle.builder.specs.Tables.{put}
 use Rattle.builder.specs.Plan.{planOf}
-use Rattle.builder.specs.Emit.{commitOf, emitCore, outcomeBy, emitNamed}
+use Rattle.builder.specs.Emission.{commitOf, emitCore, outcomeBy, emitNamed}
 use Rattle.builder.specs.Marks.{markIn, markable}
-use Rattle.builder.specs.Jumps.{unpatched, jumpBy, jumpPlanOf, commitJump, emitJumpOf}
-use Rattle.builder.specs.Jumps.{toPlanOf, commitTo, jumpToCore, emitJumpToOf}
+use Rattle.builder.specs.Forward.{unpatched, jumpBy, jumpPlanOf, commitJump, emitJumpOf}
+use Rattle.builder.specs.Forward.{toPlanOf, commitTo, jumpToCore, emitJumpToOf}
 use Rattle.builder.specs.Patch.{markPlanOf, patchPlanOf, commitPatch, patchJumpOf}
 use Rattle.demand.specs.World.{after, afterJump}
 use Rattle.builder.proofs.Putting.{length-put}

@@ -24,15 +24,15 @@ use Rattle.builder.specs.declared.Depth.the-variants.{Dead, Live}
 use Rattle.builder.specs.declared.JumpTarget.{JumpTarget}
 use Rattle.builder.specs.declared.JumpTarget.the-variants as T
 use Rattle.builder.specs.declared.Location.{Location}
-use Rattle.builder.specs.declared.Mark.{Mark}
-use Rattle.builder.specs.declared.Mark.the-variants.{Absent, Open, Patched, Target}
-use Rattle.builder.specs.declared.Plan.{Plan}
-use Rattle.builder.specs.declared.Plan.the-variants.{Idle, Refuse, Go}
+use Rattle.builder.specs.declared.marks.Mark.{Mark}
+use Rattle.builder.specs.declared.marks.Mark.the-variants.{Absent, Open, Patched, Target}
+use Rattle.builder.specs.declared.plan.Plan.{Plan}
+use Rattle.builder.specs.declared.plan.Plan.the-variants.{Idle, Refuse, Go}
 use Rattle.builder.specs.Tables.{codeLimit, wordMax, markCells, rowsIn, rowFree}
 use Rattle.builder.specs.Plan.{guard, soundOf, behind, alsoRow, roomOf, fallenOf, bytesOf, liveOf, depthOf, planOf, rowFits}
 use Rattle.builder.specs.Marks.{targetMark, markSound, meets, revived, bits, near}
-use Rattle.builder.specs.Jumps.{unpatched, jumpBy, jumpPlanOf, takenPlan, jumpDepth}
-use Rattle.builder.specs.Jumps.{spotOf, aimOf, toLiveOf, toDepth, toPlanOf}
+use Rattle.builder.specs.Forward.{unpatched, jumpBy, jumpPlanOf, takenPlan, jumpDepth}
+use Rattle.builder.specs.Forward.{spotOf, aimOf, toLiveOf, toDepth, toPlanOf}
 use Rattle.builder.specs.Patch.{openPlan, markPlanOf}
 
 never : {B : Type 0} {r : Refusal} → Refuse r ≡ Idle → B

@@ -21,13 +21,13 @@ use Rattle.builder.specs.declared.Depth.the-variants.{Dead, Live}
 use Rattle.builder.specs.declared.JumpLabel.{JumpLabel}
 use Rattle.builder.specs.declared.JumpTarget.{JumpTarget}
 use Rattle.builder.specs.declared.Jumped.the-variants as J
-use Rattle.builder.specs.declared.Plan.{Plan}
-use Rattle.builder.specs.declared.Plan.the-variants.{Idle, Refuse, Go}
+use Rattle.builder.specs.declared.plan.Plan.{Plan}
+use Rattle.builder.specs.declared.plan.Plan.the-variants.{Idle, Refuse, Go}
 use Rattle.builder.specs.declared.Targeted.the-variants as G
 use Rattle.builder.specs.Tables.{codeLimit, wordMax, exceptionCells, markCells, startCells, rowsIn, rowFree}
 use Rattle.builder.specs.Plan.{planOf}
-use Rattle.builder.specs.Emit.{commitOf, emitCore, outcomeBy, emitNamed}
-use Rattle.builder.specs.Jumps.{jumpPlanOf, commitJump, emitJumpOf, toPlanOf, commitTo, jumpToCore, emitJumpToOf, TargetOutcome, targetAt, targetOf}
+use Rattle.builder.specs.Emission.{commitOf, emitCore, outcomeBy, emitNamed}
+use Rattle.builder.specs.Forward.{jumpPlanOf, commitJump, emitJumpOf, toPlanOf, commitTo, jumpToCore, emitJumpToOf, TargetOutcome, targetAt, targetOf}
 use Rattle.builder.specs.Patch.{patchPlanOf, commitPatch, patchJumpOf}
 use Rattle.builder.specs.Calls.{AddedKept, addConstOf, withConstants, Kept, kept, unless, countsOf, freshAt, offsetsFit, withExceptions, withNames, newOf, regionAt, regionOf, addExceptionOf, registerNamesOf, registerNameOf, anyOpen, buildOf}
 

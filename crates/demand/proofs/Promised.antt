@@ -3,8 +3,8 @@
 use mathlib.Core.Path.{_≡_, sym, ap}
 use mathlib.Core.List.{List}
 use Prim.Native.Nat.{ℕ}
-use Rattle.builder.specs.Emit.{Outcome, outcome}
-use Rattle.builder.specs.Jumps.{JumpOutcome, jumpOutcome, TargetOutcome, targetOutcome}
+use Rattle.builder.specs.Emission.{Outcome, outcome}
+use Rattle.builder.specs.Forward.{JumpOutcome, jumpOutcome, TargetOutcome, targetOutcome}
 use Rattle.builder.specs.Patch.{PatchOutcome, patchOutcome}
 use Rattle.builder.specs.Calls.{Kept, kept, AddedKept, addedKept}
 use Rattle.builder.specs.declared.Added.{Added}

@@ -9,9 +9,9 @@ use Rattle.op.specs.Opcodes.{RaiseUnboundLocal}
 use Rattle.op.specs.declared.Operand.{Operand}
 use Rattle.op.specs.declared.Operand.the-variants as O
 use Rattle.op.specs.declared.Refusal.{Refusal}
-use Rattle.builder.specs.Emit.{LoadGlobalCallable, CallBuiltinFunction, CallBuiltinType, CallFunctionKw, CallAttrKw, loadOp, loadOperand, storeOp, storeOperand}
-use Rattle.builder.specs.Emit.{Outcome, emitNamed}
-use Rattle.builder.specs.Jumps.{emitJumpOf, emitJumpToOf, targetOf}
+use Rattle.builder.specs.Emission.{LoadGlobalCallable, CallBuiltinFunction, CallBuiltinType, CallFunctionKw, CallAttrKw, loadOp, loadOperand, storeOp, storeOperand}
+use Rattle.builder.specs.Emission.{Outcome, emitNamed}
+use Rattle.builder.specs.Forward.{emitJumpOf, emitJumpToOf, targetOf}
 use Rattle.builder.specs.Patch.{patchJumpOf}
 use Rattle.builder.specs.Calls.{regionOf, addConstOf, addExceptionOf, registerNamesOf, registerNameOf, buildOf}
 use Rattle.builder.specs.declared.Added.{Added}

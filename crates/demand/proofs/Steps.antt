@@ -13,8 +13,8 @@ use Rattle.op.specs.declared.Operand.{Operand}
 use Rattle.op.specs.declared.Operand.the-variants as O
 use Rattle.code.proofs.Inverse.{SignsFit}
 use Rattle.builder.specs.Tables.{startCells}
-use Rattle.builder.specs.Emit.{LoadGlobalCallable, CallBuiltinFunction, CallBuiltinType, CallFunctionKw, CallAttrKw, loadOp, loadOperand, storeOp, storeOperand}
-use Rattle.builder.specs.Emit.{emitNamed}
+use Rattle.builder.specs.Emission.{LoadGlobalCallable, CallBuiltinFunction, CallBuiltinType, CallFunctionKw, CallAttrKw, loadOp, loadOperand, storeOp, storeOperand}
+use Rattle.builder.specs.Emission.{emitNamed}
 use Rattle.builder.specs.Calls.{Kept, addConstOf, addExceptionOf, registerNamesOf, registerNameOf, buildOf, withLocation}
 use Rattle.builder.specs.declared.Added.{Added}
 use Rattle.builder.specs.declared.Added.the-variants as N

@@ -24,16 +24,16 @@ use Rattle.builder.specs.declared.JumpLabel.{JumpLabel}
 use Rattle.builder.specs.declared.JumpLabel.the-variants as L
 use Rattle.builder.specs.declared.JumpTarget.{JumpTarget}
 use Rattle.builder.specs.declared.Location.{Location}
-use Rattle.builder.specs.declared.Mark.the-variants.{Open, Target}
-use Rattle.builder.specs.declared.Plan.{Plan}
-use Rattle.builder.specs.declared.Plan.the-variants.{Idle, Refuse, Go}
+use Rattle.builder.specs.declared.marks.Mark.the-variants.{Open, Target}
+use Rattle.builder.specs.declared.plan.Plan.{Plan}
+use Rattle.builder.specs.declared.plan.Plan.the-variants.{Idle, Refuse, Go}
 use Rattle.builder.specs.Tables.{codeLimit, markCells, startCells, rowsIn, rowFree, put}
 use Rattle.builder.specs.Plan.{guard, planOf}
-use Rattle.builder.specs.Emit.{commitOf, emitCore, outcomeBy, emitNamed}
+use Rattle.builder.specs.Emission.{commitOf, emitCore, outcomeBy, emitNamed}
 use Rattle.builder.specs.Marks.{openKind, targetKind, markAt, markIn, markOf, markable, meets, revived}
-use Rattle.builder.specs.Jumps.{unpatched, jumpBy, jumpPlanOf, commitJump, emitJumpOf}
-use Rattle.builder.specs.Jumps.{toPlanOf, commitTo, jumpToCore, emitJumpToOf}
-use Rattle.builder.specs.Jumps.{targetAt, targetOf}
+use Rattle.builder.specs.Forward.{unpatched, jumpBy, jumpPlanOf, commitJump, emitJumpOf}
+use Rattle.builder.specs.Forward.{toPlanOf, commitTo, jumpToCore, emitJumpToOf}
+use Rattle.builder.specs.Forward.{targetAt, targetOf}
 use Rattle.builder.specs.Patch.{markPlanOf, patchPlanOf, commitPatch, patchJumpOf}
 use Rattle.builder.specs.Calls.{kept, unless, countsOf, freshAt, newOf, regionAt, regionOf}
 use Rattle.demand.specs.History.{born}

@@ -12,8 +12,8 @@ use Rattle.op.specs.declared.Operand.{Operand}
 use Rattle.op.specs.declared.Refusal.the-variants.{Full}
 use Rattle.op.specs.declared.Table.the-variants.{Starts}
 use Rattle.builder.specs.Tables.{codeLimit, markCells, startCells, rowsIn, rowFree, put}
-use Rattle.builder.specs.Emit.{CoreOutcome, emitCore, outcomeBy, emitNamed}
-use Rattle.builder.specs.Jumps.{jumpPlanOf, commitJump, emitJumpOf, jumpToCore, emitJumpToOf, TargetOutcome, targetAt, targetOf}
+use Rattle.builder.specs.Emission.{CoreOutcome, emitCore, outcomeBy, emitNamed}
+use Rattle.builder.specs.Forward.{jumpPlanOf, commitJump, emitJumpOf, jumpToCore, emitJumpToOf, TargetOutcome, targetAt, targetOf}
 use Rattle.builder.specs.Patch.{patchPlanOf, commitPatch, patchJumpOf}
 use Rattle.builder.specs.Calls.{Kept, kept, unless, countsOf, freshAt, opened, newOf, regionAt, regionOf, AddedKept}
 use Rattle.builder.specs.declared.Added.{Added}
@@ -21,14 +21,14 @@ use Rattle.builder.specs.declared.Added.the-variants as N
 use Rattle.builder.specs.declared.Answer.{Answer}
 use Rattle.builder.specs.declared.Answer.the-variants.{Accepted, Refused}
 use Rattle.builder.specs.declared.Builder.{Builder}
-use Rattle.builder.specs.declared.CoreAnswer.{CoreAnswer}
-use Rattle.builder.specs.declared.CoreAnswer.the-variants as C
+use Rattle.builder.specs.declared.state.CoreAnswer.{CoreAnswer}
+use Rattle.builder.specs.declared.state.CoreAnswer.the-variants as C
 use Rattle.builder.specs.declared.Depth.{Depth}
 use Rattle.builder.specs.declared.Depth.the-variants.{Dead, Live}
 use Rattle.builder.specs.declared.JumpLabel.{JumpLabel}
 use Rattle.builder.specs.declared.JumpTarget.{JumpTarget}
-use Rattle.builder.specs.declared.Plan.{Plan}
-use Rattle.builder.specs.declared.Plan.the-variants.{Idle, Refuse, Go}
+use Rattle.builder.specs.declared.plan.Plan.{Plan}
+use Rattle.builder.specs.declared.plan.Plan.the-variants.{Idle, Refuse, Go}
 use Rattle.builder.proofs.Putting.{length-put}
 use Rattle.demand.specs.World.{after, afterJump, afterTarget, afterConst}
 use Rattle.demand.proofs.Keeping.{either, SameCore}

@@ -16,7 +16,7 @@ use Rattle.builder.specs.declared.JumpLabel.{JumpLabel}
 use Rattle.builder.specs.declared.JumpLabel.the-variants as L
 use Rattle.builder.specs.declared.JumpTarget.{JumpTarget}
 use Rattle.builder.specs.declared.JumpTarget.the-variants as T
-use Rattle.builder.specs.Emit.{LoadGlobalCallable, CallBuiltinFunction, CallBuiltinType, CallFunctionKw, CallAttrKw, loadOp, loadOperand, storeOp, storeOperand}
+use Rattle.builder.specs.Emission.{LoadGlobalCallable, CallBuiltinFunction, CallBuiltinType, CallFunctionKw, CallAttrKw, loadOp, loadOperand, storeOp, storeOperand}
 use Rattle.demand.specs.History.{Call, emit, emitJump, emitJumpTo, patchJump, jumpTarget, newRegion, other}
 use Rattle.demand.specs.History.{label, target}
 

@@ -15,9 +15,9 @@ use Rattle.builder.specs.declared.Jumped.the-variants as J
 use Rattle.builder.specs.declared.Location.the-variants.{Set}
 use Rattle.builder.specs.declared.Targeted.{Targeted}
 use Rattle.builder.specs.declared.Targeted.the-variants as G
-use Rattle.builder.specs.Emit.{LoadGlobalCallable, CallBuiltinFunction, CallBuiltinType, CallFunctionKw, CallAttrKw, loadOp, loadOperand, storeOp, storeOperand}
-use Rattle.builder.specs.Emit.{Outcome, emitNamed, emitOf}
-use Rattle.builder.specs.Jumps.{JumpOutcome, emitJumpOf, emitJumpToOf, TargetOutcome, targetOf}
+use Rattle.builder.specs.Emission.{LoadGlobalCallable, CallBuiltinFunction, CallBuiltinType, CallFunctionKw, CallAttrKw, loadOp, loadOperand, storeOp, storeOperand}
+use Rattle.builder.specs.Emission.{Outcome, emitNamed, emitOf}
+use Rattle.builder.specs.Forward.{JumpOutcome, emitJumpOf, emitJumpToOf, TargetOutcome, targetOf}
 use Rattle.builder.specs.Patch.{PatchOutcome, patchJumpOf}
 use Rattle.builder.specs.Calls.{Kept, AddedKept, regionOf, addConstOf, addExceptionOf, registerNamesOf, registerNameOf, buildOf, withLocation}
 use Rattle.demand.specs.History.{Given, no, ok, label, target, History, seen}

@@ -16,9 +16,9 @@ use Rattle.code.specs.Lookups.{coversOf, firstCovering, handlerOf}
 use Rattle.code.specs.Rows.{first}
 use Rattle.builder.specs.Tables.{put}
 use Rattle.builder.specs.Plan.{soundOf, roomOf, behind, bytesOf, liveOf, planOf}
-use Rattle.builder.specs.Emit.{emitCore, emitNamed}
+use Rattle.builder.specs.Emission.{emitCore, emitNamed}
 use Rattle.builder.specs.Marks.{markOf, markIn, fits, markable, near, bits}
-use Rattle.builder.specs.Jumps.{jumpPlanOf, emitJumpOf, toLiveOf, toPlanOf, jumpToCore, emitJumpToOf}
+use Rattle.builder.specs.Forward.{jumpPlanOf, emitJumpOf, toLiveOf, toPlanOf, jumpToCore, emitJumpToOf}
 use Rattle.builder.specs.Patch.{markPlanOf, patchPlanOf, patchJumpOf}
 use Rattle.builder.specs.Calls.{addConstOf}
 use Rattle.checker.specs.Cells.{held}

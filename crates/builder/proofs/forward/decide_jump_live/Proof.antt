@@ -1,0 +1,56 @@
+-- `builder::forward::decide_jump_live` meets its contract: the taken depth is op's, the rest as any emission.
+-- Assumes nothing.
+use Rattle.builder.proofs.Plans.{live-from}
+use Rattle.builder.specs.Forward.{unpatched}
+use borrow.Author.Needs.{needs}
+use mathlib.Core.Path.{_∙_, sym}
+use Rattle.builder.proofs.forward.decide_jump_live.Statement.{statement}
+use Rattle.builder.proofs.forward.decide_jump_live.Tie as tie
+
+taken-requires : tie.Need-taken-requires
+taken-requires c κs = search needs
+
+enum-known-taken : tie.Need-enum-known-taken
+enum-known-taken c = search needs
+
+enum-known-taken-2 : tie.Need-enum-known-taken-2
+enum-known-taken-2 c = search needs
+
+decide-bytes-requires : tie.Need-decide-bytes-requires
+decide-bytes-requires c κs = search needs
+
+also-location-requires : tie.Need-also-location-requires
+also-location-requires c κs = search needs
+
+also-row-requires : tie.Need-also-row-requires
+also-row-requires c κs = search needs
+
+returns : tie.Need-returns
+returns c =
+    let after-taken = c .before .before .before in
+    simp (sym (after-taken .taken .ensures) ∙ c .before .taken2 .given .1)
+
+returns-2 : tie.Need-returns-2
+returns-2 c =
+    let after-also-location = c .before .before in
+    let after-decide-bytes = after-also-location .before in
+    let after-taken3 = after-decide-bytes .before .before in
+    let after-taken = after-taken3 .before .before in
+    let start = after-taken .before in
+    let a = start .args in
+    let live = live-from (a .core) (a .location) (a .cl) (a .ll) (a .d) (a .opcode) unpatched 0 _ _ _
+    (after-decide-bytes .decide-bytes .ensures) (after-also-location .also-location .ensures) in
+    simp (sym (after-taken .taken .ensures) ∙ after-taken3 .taken3 .given .1) (rw live at (c .also-row .ensures))
+
+pub decide-jump-live-spec : {M : Type 1} → statement M
+decide-jump-live-spec =
+    tie.close
+    (tie.spec
+    taken-requires
+    enum-known-taken
+    enum-known-taken-2
+    decide-bytes-requires
+    also-location-requires
+    also-row-requires
+    returns
+    returns-2)

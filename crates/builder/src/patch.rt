@@ -1,0 +1,85 @@
+// Deciding and writing a patch.
+ghost use mathlib.Core.Path.{_≡_};
+ghost use Prim.Native.Nat.{_+_, _≤_, _<_, _/_};
+ghost use lib.ListN.{length};
+ghost use Rattle.builder.specs.Tables.{codeLimit, markCells, wordMax, jumpSize};
+ghost use mathlib.Core.Bool.{true};
+ghost use Rattle.builder.specs.Marks.{markSound};
+ghost use Rattle.builder.specs.Patch.{openPlan, markPlanOf, PatchCommitted};
+use crate::Core;
+use crate::Depth;
+use crate::MARK_CELLS;
+use crate::marks;
+use crate::marks::Mark;
+use crate::plan::Plan;
+use crate::tables;
+use op::Refusal;
+
+// An open label's mark: 11, then 6.
+fn decide_open(core: Core, offset: u32, depth: u32) -> Plan
+    requires { ⌜ (core .code ≤ codeLimit) × (depth ≤ wordMax) ⌝ }
+    ensures { λ r. ⌜ r ≡ openPlan (Mark.Open offset depth) core ⌝ }
+{
+    let here = core.depth;
+    if !marks::meets_depth(here, depth) {
+        return Plan::Refuse(Refusal::DepthsDiffer);
+    }
+    let from = offset as usize;
+    if !marks::is_near(from, core.code) {
+        return Plan::Refuse(Refusal::JumpTooFar);
+    }
+    Plan::Go(
+        marks::revive(here, depth as u16),
+        marks::bits_of(from, core.code),
+        from,
+    )
+}
+
+// A mark that can be, by its kind.
+fn decide_kind(mark: Mark, core: Core) -> Plan
+    requires { ⌜ (core .code ≤ codeLimit) × (markSound (core .code) mark ≡ true) ⌝ }
+    ensures { λ r. ⌜ r ≡ openPlan mark core ⌝ }
+{
+    match mark {
+        Mark::Absent => Plan::Refuse(Refusal::NoSuchMark),
+        Mark::Target(_, _) => Plan::Refuse(Refusal::NoSuchMark),
+        Mark::Patched(_, _) => Plan::Refuse(Refusal::AlreadyPatched),
+        Mark::Open(offset, depth) => decide_open(core, offset, depth),
+    }
+}
+
+// What a patch of this mark is to do.
+pub fn decide_mark(mark: Mark, core: Core) -> Plan
+    requires { ⌜ core .code ≤ codeLimit ⌝ }
+    ensures { λ r. ⌜ r ≡ markPlanOf mark core ⌝ }
+{
+    if !marks::mark_sound(core.code, mark) {
+        return Plan::Refuse(Refusal::Unsound);
+    }
+    decide_kind(mark, core)
+}
+
+// The displacement behind the opcode, and the mark's new kind; the core then.
+pub fn commit_patch(
+    core: Core,
+    i: usize,
+    offset: usize,
+    w: u16,
+    after: Depth,
+    code: &mut [u8],
+    marks: &mut [u32],
+) -> Core
+    requires { ⌜ (offset + jumpSize ≤ length (now code)) × (i < length (now marks) / markCells) ⌝ }
+    ensures { λ r. ⌜ PatchCommitted core i offset w after (now (code .entry)) (now (marks .entry)) r (now (code .exit)) (now (marks .exit)) ⌝ }
+{
+    let p = offset + 1;
+    tables::put2(&mut code[p..], (w % 256) as u8, (w / 256) as u8);
+    let base = i * MARK_CELLS;
+    marks[base] = marks::PATCHED;
+    Core {
+        code: core.code,
+        locations: core.locations,
+        marks: core.marks,
+        depth: after,
+    }
+}

@@ -1,0 +1,159 @@
+// Deciding an emission, on numbers alone, in the order of document 01's line "Emitting calls".
+ghost use Prim.Native.Nat.{_≤_};
+ghost use Rattle.builder.specs.Plan.{soundOf, Sound, behind, rowFits, alsoRow, roomOf, bytesOf, liveOf, planOf};
+ghost use Rattle.builder.specs.Tables.{codeLimit};
+ghost use mathlib.Core.Path.{_≡_};
+use crate::CODE_LIMIT;
+use crate::Core;
+use crate::Depth;
+use crate::LOCATION_CELLS;
+use crate::Location;
+use crate::WORD_MAX;
+use code::decoder;
+use op::After;
+use op::Operand;
+use op::Refusal;
+use op::Table;
+use op::depths;
+use op::effects;
+use op::opcodes;
+use op::shapes;
+
+// What a call is to do: nothing, in dead code; refuse; or write.
+pub enum Plan {
+    Idle,
+    Refuse(Refusal),
+    // the depth then; a jump's taken depth or displacement, 0 elsewhere; and the size of the instruction, or the offset of
+    // the jump to patch. The number stands last, where a refusal has its own: else a plan is copied in halves
+    Go(Depth, u16, usize),
+}
+
+// Whether the counts are within the lent code and locations.
+pub fn sound(core: Core, cl: usize, ll: usize) -> bool
+    ensures { λ r. ⌜ r ≡ soundOf core cl ll ⌝ }
+{
+    if cl < core.code {
+        return false;
+    }
+    if CODE_LIMIT < core.code {
+        return false;
+    }
+    core.locations <= ll / LOCATION_CELLS
+}
+
+// The depth behind an opcode that falls through to `e`.
+fn behind_op(opcode: u8, e: u16) -> Depth
+    ensures { λ r. ⌜ r ≡ behind opcode e ⌝ }
+{
+    if effects::is_dead_maker(opcode) {
+        return Depth::Dead;
+    }
+    Depth::Live(e)
+}
+
+// Whether a location that is set has room for its row.
+fn row_fits(location: Location, rows: usize, ll: usize) -> bool
+    ensures { λ r. ⌜ r ≡ rowFits location rows ll ⌝ }
+{
+    let Location::Set(_, _) = location else {
+        return true;
+    };
+    rows < ll / LOCATION_CELLS
+}
+
+// The same plan, where a table has room for the row that goes with it.
+pub fn also_row(plan: Plan, free: bool, table: Table) -> Plan
+    ensures { λ r. ⌜ r ≡ alsoRow plan free table ⌝ }
+{
+    match plan {
+        Plan::Idle => Plan::Idle,
+        Plan::Refuse(refusal) => Plan::Refuse(refusal),
+        Plan::Go(after, word, size) => {
+            if free {
+                return Plan::Go(after, word, size);
+            }
+            Plan::Refuse(Refusal::Full(table))
+        }
+    }
+}
+
+// The same plan, where a location that is set has room for its row.
+pub fn also_location(plan: Plan, location: Location, rows: usize, ll: usize) -> Plan
+    ensures { λ r. ⌜ r ≡ alsoRow plan (rowFits location rows ll) Table.Locations ⌝ }
+{
+    also_row(plan, row_fits(location, rows, ll), Table::Locations)
+}
+
+// Whether there is room for so many bytes.
+fn room(core: Core, size: usize, after: Depth, word: u16, cl: usize) -> Plan
+    requires { ⌜ (core .code ≤ cl) × (core .code ≤ codeLimit) ⌝ }
+    ensures { λ r. ⌜ r ≡ roomOf (core .code) size after word cl ⌝ }
+{
+    let at = core.code;
+    if cl - at < size {
+        return Plan::Refuse(Refusal::Full(Table::Code));
+    }
+    if CODE_LIMIT - at < size {
+        return Plan::Refuse(Refusal::Full(Table::Code));
+    }
+    Plan::Go(after, word, size)
+}
+
+// What is decided of the bytes, in live code at depth `d`, with `n` keyword names.
+pub fn decide_bytes(
+    core: Core,
+    d: u16,
+    opcode: u8,
+    operand: Operand,
+    n: usize,
+    word: u16,
+    cl: usize,
+) -> Plan
+    requires { ⌜ (core .code ≤ cl) × (core .code ≤ codeLimit) ⌝ }
+    ensures { λ r. ⌜ r ≡ bytesOf (core .code) d opcode operand n word cl ⌝ }
+{
+    if 255 < n {
+        return Plan::Refuse(Refusal::TooManyKeywords);
+    }
+    if decoder::names_of(operand) != n {
+        return Plan::Refuse(Refusal::WrongShape);
+    }
+    let after = depths::after(d, opcode, operand);
+    match after {
+        After::Depth(e) => {
+            let size = shapes::instruction_size(shapes::of_operand(operand), n as u8);
+            room(core, size, behind_op(opcode, e), word, cl)
+        }
+        After::Refused(refusal) => Plan::Refuse(refusal),
+    }
+}
+
+// What an emitting call is to do; `name` is the name in the operand, 0 without one.
+pub fn decide(
+    core: Core,
+    location: Location,
+    opcode: u8,
+    name: u32,
+    operand: Operand,
+    n: usize,
+    cl: usize,
+    ll: usize,
+) -> Plan
+    ensures { λ r. ⌜ r ≡ planOf core location opcode name operand n cl ll ⌝ }
+{
+    if !sound(core, cl, ll) {
+        return Plan::Refuse(Refusal::Unsound);
+    }
+    if opcodes::LAST < opcode {
+        return Plan::Refuse(Refusal::UnknownOpcode);
+    }
+    if WORD_MAX < name {
+        return Plan::Refuse(Refusal::NameTooLarge);
+    }
+    let depth = core.depth;
+    let Depth::Live(d) = depth else {
+        return Plan::Idle;
+    };
+    let plan = decide_bytes(core, d, opcode, operand, n, 0, cl);
+    also_location(plan, location, core.locations, ll)
+}
