@@ -33,7 +33,7 @@ use Rattle.builder.specs.Tables.{markCells, rowsIn, rowFree}
 use Rattle.builder.specs.Plan.{guard, soundOf, Sound, liveOf, Goes}
 use Rattle.builder.specs.Marks.{markAt, markIn, targetMark, markSound, near, bits}
 use Rattle.builder.specs.Forward.{unpatched, takenPlan, jumpDepth, jumpPlanOf, JumpGoes, commitJump, emitJumpOf}
-use Rattle.builder.specs.Forward.{jumpBy, spotOf, aimOf, toLiveOf, toDepth, toPlanOf, commitTo, jumpToCore}
+use Rattle.builder.specs.Back.{jumpBy, spotOf, aimOf, toLiveOf, toDepth, toPlanOf, commitTo, jumpToCore}
 use Rattle.builder.proofs.Plans.{both, sound-true, guard-go, also-go, LiveGoes, live-goes, goes-by}
 
 -- what a plan comes to

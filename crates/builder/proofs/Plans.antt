@@ -30,7 +30,8 @@ use Rattle.builder.specs.declared.Location.{Location}
 use Rattle.builder.specs.declared.plan.Plan.{Plan}
 use Rattle.builder.specs.declared.plan.Plan.the-variants.{Idle, Refuse, Go}
 use Rattle.builder.specs.Tables.{codeLimit, locationCells, wordMax}
-use Rattle.builder.specs.Plan.{guard, soundOf, Sound, rowFits, alsoRow, roomOf, behind, fallenOf, bytesOf, liveOf, depthOf, planOf, Goes}
+use Rattle.builder.specs.Locations.{rowFits}
+use Rattle.builder.specs.Plan.{guard, soundOf, Sound, alsoRow, roomOf, behind, fallenOf, bytesOf, liveOf, depthOf, planOf, Goes}
 
 pub both : (a b : Bool) → (a && b) ≡ true → (a ≡ true) × (b ≡ true)
 both true b e = (refl, e)

@@ -1,57 +1,28 @@
 -- The model of emission: answer, state and tables after an emitting call: builder.rs, `emit_with_operand` and the calls over it.
 -- Assumes nothing.
+use mathlib.Core.List.{List}
 use mathlib.Core.Path.{_≡_}
-use mathlib.Core.List.{List, [], _∷_}
-use Prim.Native.Nat.{ℕ, _+_, _*_}
+use Prim.Native.Nat.{ℕ, _+_}
 use lib.Dec.{leb}
 use lib.ListN.{length}
 use Rattle.op.specs.Choice.{pick}
 use Rattle.op.specs.declared.Operand.{Operand}
 use Rattle.op.specs.declared.Operand.the-variants as O
 use Rattle.code.specs.Encode.{encode}
-use Rattle.code.specs.declared.CodeRange.{CodeRange}
-use Rattle.code.specs.declared.Focus.{Focus}
-use Rattle.code.specs.declared.Focus.the-variants.{Absent, Present}
 use Rattle.builder.specs.declared.Answer.{Answer}
 use Rattle.builder.specs.declared.Answer.the-variants.{Accepted, Refused}
 use Rattle.builder.specs.declared.Builder.{Builder}
 use Rattle.builder.specs.declared.Core.{Core}
-use Rattle.builder.specs.declared.state.CoreAnswer.{CoreAnswer}
-use Rattle.builder.specs.declared.state.CoreAnswer.the-variants as C
 use Rattle.builder.specs.declared.Depth.{Depth}
 use Rattle.builder.specs.declared.Location.{Location}
-use Rattle.builder.specs.declared.Location.the-variants.{Unset, Set}
 use Rattle.builder.specs.declared.plan.Plan.{Plan}
 use Rattle.builder.specs.declared.plan.Plan.the-variants.{Idle, Refuse, Go}
-use Rattle.builder.specs.Tables.{locationCells, put}
+use Rattle.builder.specs.declared.state.CoreAnswer.{CoreAnswer}
+use Rattle.builder.specs.declared.state.CoreAnswer.the-variants as C
+use Rattle.builder.specs.Tables.{put}
+use Rattle.builder.specs.State.{answerBy}
+use Rattle.builder.specs.Locations.{locationsAfter, rowsAfter}
 use Rattle.builder.specs.Plan.{planOf}
-
--- "focus present 0/1, focus start, end; the last two 0 without focus"
-abbrev pub focused : Focus → ℕ
-focused Absent = 0
-focused (Present f) = 1
-
-abbrev pub focusStart : Focus → ℕ
-focusStart Absent = 0
-focusStart (Present f) = f .start
-
-abbrev pub focusEnd : Focus → ℕ
-focusEnd Absent = 0
-focusEnd (Present f) = f .end
-
--- a location's row: "offset, range start, end, focus present 0/1, focus start, end"
-abbrev pub locationRow : ℕ → CodeRange → Focus → List ℕ
-locationRow at r f = at ∷ r .start ∷ r .end ∷ focused f ∷ focusStart f ∷ focusEnd f ∷ []
-
--- the location table after an instruction at an offset
-abbrev pub locationsAfter : Location → ℕ → ℕ → List ℕ → List ℕ
-locationsAfter Unset rows at locs = locs
-locationsAfter (Set r f) rows at locs = put (rows * locationCells) (locationRow at r f) locs
-
--- and its used rows
-abbrev pub rowsAfter : Location → ℕ → ℕ
-rowsAfter Unset rows = rows
-rowsAfter (Set r f) rows = rows + 1
 
 -- the core with so many location rows, after an instruction of so many bytes
 abbrev pub coreWith : Core → ℕ → ℕ → Depth → Core
@@ -87,22 +58,6 @@ pub record Committed (c : Core) (l : Location) (k : ℕ) (o : Operand) (ns code 
   pub count : used ≡ rowsAfter l (c .locations)
   pub bytes : code′ ≡ put (c .code) (encode k o ns) code
   pub rows : locs′ ≡ locationsAfter l (c .locations) (c .code) locs
-
--- the same state with another core
-abbrev pub withCore : Builder → Core → Builder
-withCore b c = record {
-  core = c;
-  location = b .location;
-  exceptions = b .exceptions;
-  constants = b .constants;
-  names = b .names;
-  starts = b .starts;
-}
-
--- the state around an answer of the core
-abbrev pub answerBy : Builder → CoreAnswer → Answer
-answerBy b (C.Accepted c) = Accepted (withCore b c)
-answerBy b (C.Refused r) = Refused r
 
 -- the answer, and code and locations as the call leaves them
 pub record Outcome : Type 0 where

@@ -1,7 +1,13 @@
 pub mod Tables
+pub mod State
+pub mod Locations
 pub mod Plan
 pub mod Emission
 pub mod Marks
 pub mod Forward
+pub mod Back
 pub mod Patch
-pub mod Calls
+pub mod Regions
+pub mod Constants
+pub mod Exceptions
+pub mod Names

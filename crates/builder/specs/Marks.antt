@@ -1,19 +1,26 @@
--- Marks, and how far a jump goes: document 01, "Lent tables" (marks), "Displacement", refusals 6, 13, 14 and 19.
+-- Marks, and how far a jump goes: document 01, "Lent tables" (marks), "Displacement", refusals 6, 13, 14, 17 and 19, and
+-- "A live `emit_jump` takes one mark, and so does a live `current_jump_target`".
 -- Assumes nothing.
-use mathlib.Core.Bool.{Bool, true, _&&_}
+use mathlib.Core.Bool.{_&&_, Bool, true, false, _||_}
 use mathlib.Core.List.{List, [], _∷_}
-use Prim.Native.Nat.{ℕ, _+_, _-_, _*_, _/_, _%_, _≤_}
-use lib.Dec.{leb, ltb, eqb}
-use lib.ListN.{getD}
+use Prim.Native.Nat.{ℕ, _+_, _*_, _/_, _-_, _%_, _≤_, zero, suc}
+use lib.Dec.{leb, eqb, ltb}
+use lib.ListN.{length, getD}
 use Rattle.op.specs.Choice.{pick}
+use Rattle.op.specs.declared.Refusal.the-variants.{Full, Unsound}
+use Rattle.op.specs.declared.Table.the-variants.{Marks}
+use Rattle.builder.specs.declared.Builder.{Builder}
 use Rattle.builder.specs.declared.Core.{Core}
 use Rattle.builder.specs.declared.Depth.{Depth}
 use Rattle.builder.specs.declared.Depth.the-variants.{Dead, Live}
 use Rattle.builder.specs.declared.JumpTarget.{JumpTarget}
 use Rattle.builder.specs.declared.JumpTarget.the-variants as T
+use Rattle.builder.specs.declared.Targeted.{Targeted}
+use Rattle.builder.specs.declared.Targeted.the-variants as G
 use Rattle.builder.specs.declared.marks.Mark.{Mark}
 use Rattle.builder.specs.declared.marks.Mark.the-variants.{Absent, Open, Patched, Target}
-use Rattle.builder.specs.Tables.{codeLimit, markCells, wordMax, jumpSize, rowsIn}
+use Rattle.builder.specs.Tables.{codeLimit, jumpSize, markCells, put, rowFree, rowsIn, wordMax}
+use Rattle.builder.specs.State.{withCore, withMarks}
 
 -- "kind 1 open label, 2 patched label, 3 target"
 abbrev pub openKind : ℕ
@@ -85,3 +92,33 @@ meets (Live e) d = eqb e d
 abbrev pub revived : Depth → ℕ → Depth
 revived Dead d = Live d
 revived (Live e) d = Live e
+
+-- the answer, and the marks as the call leaves them
+pub record TargetOutcome : Type 0 where
+  pub answer : Targeted
+  pub marks : List ℕ
+
+abbrev pub targetOutcome : Targeted → List ℕ → TargetOutcome
+targetOutcome r marks = record { answer = r; marks = marks }
+
+-- 18, then a target's mark at the used end, with the offset and the depth here
+abbrev pub targetAt : Depth → Builder → List ℕ → TargetOutcome
+targetAt Dead b marks = targetOutcome (G.Made b T.Dead) marks
+targetAt (Live d) b marks =
+    pick (rowFree markCells (b .core .marks) (length marks))
+    (targetOutcome
+    (G.Made (withCore b (withMarks (b .core) (b .core .marks + 1))) (T.Row (b .core .marks)))
+    (put (b .core .marks * markCells) (markRow targetKind (b .core .code) d) marks))
+    (targetOutcome (G.Refused (Full Marks)) marks)
+
+-- "Others, dead or live: 19, their own refusals, 18"; dead, nothing is wanted
+unfoldable pub targetOf : Builder → List ℕ → TargetOutcome
+targetOf b marks =
+    pick (leb (b .core .code) codeLimit && rowsIn markCells (b .core .marks) (length marks))
+    (targetAt (b .core .depth) b marks)
+    (targetOutcome (G.Refused Unsound) marks)
+
+-- 17, "an open label": whether one of the first n marks is
+unfoldable pub anyOpen : ℕ → List ℕ → Bool
+anyOpen zero marks = false
+anyOpen (suc n) marks = anyOpen n marks || eqb (getD marks (n * markCells) 0) openKind

@@ -1,7 +1,7 @@
 -- The model of `patch_jump`: document 01, "`patch_jump`: 19, Dead (accepted, no change), 13, 14, 11, 6".
 -- Assumes nothing.
-use mathlib.Core.Path.{_≡_}
 use mathlib.Core.List.{List}
+use mathlib.Core.Path.{_≡_}
 use Prim.Native.Nat.{ℕ, _+_, _*_}
 use lib.ListN.{length, set}
 use Rattle.op.specs.declared.Refusal.the-variants.{JumpTooFar, DepthsDiffer, NoSuchMark, AlreadyPatched, Unsound}
@@ -18,9 +18,9 @@ use Rattle.builder.specs.declared.marks.Mark.the-variants.{Absent, Open,
 use Rattle.builder.specs.declared.plan.Plan.{Plan}
 use Rattle.builder.specs.declared.plan.Plan.the-variants.{Idle, Refuse, Go}
 use Rattle.builder.specs.Tables.{markCells, put}
+use Rattle.builder.specs.State.{withCore, withDepth}
 use Rattle.builder.specs.Plan.{guard}
-use Rattle.builder.specs.Emission.{withCore}
-use Rattle.builder.specs.Marks.{patchedKind, markIn, markSound, markable, near, bits, meets, revived}
+use Rattle.builder.specs.Marks.{bits, markIn, markSound, markable, meets, near, patchedKind, revived}
 
 -- 13, 14, 11, 6
 abbrev pub openPlan : Mark → Core → Plan
@@ -47,10 +47,6 @@ patchPlanOf c label cl marks = guard (markable c cl (length marks)) Unsound (lab
 abbrev pub labelRow : JumpLabel → ℕ
 labelRow L.Dead = 0
 labelRow (L.Row i) = i
-
--- the same core with another depth
-abbrev pub withDepth : Core → Depth → Core
-withDepth c d = record { code = c .code; locations = c .locations; marks = c .marks; depth = d }
 
 -- what writing a patch leaves
 pub record PatchCommitted (c : Core) (i offset w : ℕ) (after : Depth) (code marks : List ℕ) (next : Core) (code′ marks′ : List ℕ) : Type 0 where

@@ -1,8 +1,8 @@
 -- What an emitting call decides: document 01, "Emitting calls: 19, 1, 8, dead code (accepted, nothing changes), .., 7, 2, 4, 5,
 -- then 18 in the order code, locations". What stands for the dots is in Jumps.antt.
 -- Assumes nothing.
-use mathlib.Core.Path.{_≡_}
 use mathlib.Core.Bool.{Bool, true, false, _&&_}
+use mathlib.Core.Path.{_≡_}
 use Prim.Native.Nat.{ℕ, _-_, _≤_, _/_}
 use lib.Dec.{leb, eqb}
 use Rattle.op.specs.Choice.{pick}
@@ -24,10 +24,10 @@ use Rattle.builder.specs.declared.Core.{Core}
 use Rattle.builder.specs.declared.Depth.{Depth}
 use Rattle.builder.specs.declared.Depth.the-variants.{Dead, Live}
 use Rattle.builder.specs.declared.Location.{Location}
-use Rattle.builder.specs.declared.Location.the-variants.{Unset, Set}
 use Rattle.builder.specs.declared.plan.Plan.{Plan}
 use Rattle.builder.specs.declared.plan.Plan.the-variants.{Idle, Refuse, Go}
-use Rattle.builder.specs.Tables.{codeLimit, locationCells, wordMax, rowsIn, rowFree}
+use Rattle.builder.specs.Tables.{codeLimit, locationCells, rowsIn, wordMax}
+use Rattle.builder.specs.Locations.{rowFits}
 
 -- go on where the test holds, else refuse
 abbrev pub guard : Bool → Refusal → Plan → Plan
@@ -37,11 +37,6 @@ guard false r p = Refuse r
 -- 19 of a call that is lent code and locations, each of so many cells
 unfoldable pub soundOf : Core → ℕ → ℕ → Bool
 soundOf c cl ll = leb (c .code) cl && leb (c .code) codeLimit && rowsIn locationCells (c .locations) ll
-
--- "Each live emission with a location set adds one location row"
-abbrev pub rowFits : Location → ℕ → ℕ → Bool
-rowFits Unset rows ll = true
-rowFits (Set r f) rows ll = rowFree locationCells rows ll
 
 -- 18 of a row that goes with an instruction: of its location, of a jump's mark
 abbrev pub alsoRow : Plan → Bool → Table → Plan

@@ -1,7 +1,7 @@
 // Deciding and writing a jump to a target.
 ghost use Prim.Native.Nat.{ℕ, _<_, _/_};
 ghost use Rattle.builder.specs.Emission.{coreOutcome};
-ghost use Rattle.builder.specs.Forward.{spotOf, toLiveOf, toPlanOf, jumpToCore};
+ghost use Rattle.builder.specs.Back.{spotOf, toLiveOf, toPlanOf, jumpToCore};
 ghost use Rattle.builder.specs.Plan.{Sound};
 ghost use Rattle.op.specs.Depths.{takenDepthOf};
 ghost use mathlib.Core.Path.{_≡_};

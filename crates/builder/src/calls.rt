@@ -1,9 +1,16 @@
 // The public calls, in the order of builder.rs. Each decides before it writes.
 // The modules behind hold what they share.
 ghost use Prim.Native.Nat.{_%_};
-ghost use Rattle.builder.specs.Calls.{addConstOf, addExceptionOf, addedKept, buildOf, deadOf, kept, newOf, positionOf, regionOf, registerNameOf, registerNamesOf, withLocation};
+ghost use Rattle.builder.specs.State.{deadOf, kept};
+ghost use Rattle.builder.specs.Locations.{positionOf, withLocation};
+ghost use Rattle.builder.specs.Regions.{newOf, regionOf};
+ghost use Rattle.builder.specs.Constants.{addConstOf, addedKept};
+ghost use Rattle.builder.specs.Exceptions.{addExceptionOf};
+ghost use Rattle.builder.specs.Names.{buildOf, registerNameOf, registerNamesOf};
 ghost use Rattle.builder.specs.Emission.{CallAttrKw, CallBuiltinFunction, CallBuiltinType, CallFunctionKw, LoadGlobalCallable, emitNamed, emitOf, loadOp, loadOperand, outcome, storeOp, storeOperand};
-ghost use Rattle.builder.specs.Forward.{emitJumpOf, emitJumpToOf, jumpOutcome, targetOf, targetOutcome};
+ghost use Rattle.builder.specs.Marks.{targetOf, targetOutcome};
+ghost use Rattle.builder.specs.Forward.{emitJumpOf, jumpOutcome};
+ghost use Rattle.builder.specs.Back.{emitJumpToOf};
 ghost use Rattle.builder.specs.Patch.{patchJumpOf, patchOutcome};
 ghost use Rattle.op.specs.Opcodes.{RaiseUnboundLocal};
 ghost use lib.ListN.{length};
@@ -24,13 +31,12 @@ use crate::START_CELLS;
 use crate::Targeted;
 use crate::WORD_MAX;
 use crate::back;
+use crate::constants;
 use crate::emission;
-use crate::entries;
+use crate::exceptions;
 use crate::forward;
-use crate::jumps;
 use crate::marks;
 use crate::names;
-use crate::narrowing;
 use crate::patch;
 use crate::plan::Plan;
 use crate::regions;
@@ -230,7 +236,7 @@ impl Builder {
     ) -> Answer
         ensures { λ r. ⌜ outcome r (now (code .exit)) (now (locations .exit)) ≡ emitOf self CallFunctionKw (Operand.CallKw positional (length (now (kwnames .entry)) % 256)) (now (kwnames .entry)) (now (code .entry)) (now (locations .entry)) ⌝ }
     {
-        let names = narrowing::count_byte(kwnames.len());
+        let names = names::count_byte(kwnames.len());
         emission::emit_with_names(
             self,
             opcodes::CALL_FUNCTION_KW,
@@ -252,7 +258,7 @@ impl Builder {
     ) -> Answer
         ensures { λ r. ⌜ outcome r (now (code .exit)) (now (locations .exit)) ≡ emitOf self CallAttrKw (Operand.CallAttrKw attribute positional (length (now (kwnames .entry)) % 256)) (now (kwnames .entry)) (now (code .entry)) (now (locations .entry)) ⌝ }
     {
-        let names = narrowing::count_byte(kwnames.len());
+        let names = names::count_byte(kwnames.len());
         emission::emit_with_names(
             self,
             opcodes::CALL_ATTR_KW,
@@ -386,7 +392,7 @@ impl Builder {
         let Depth::Live(d) = depth else {
             return Targeted::Made(self, JumpTarget::Dead);
         };
-        jumps::mark_target(self, d, marks)
+        marks::mark_target(self, d, marks)
     }
 
     // Names the slots 0, 1, .. in one pass, before any other is named.
@@ -444,7 +450,7 @@ impl Builder {
     ) -> Answer
         ensures { λ r. ⌜ outcome r (now (code .exit)) (now (locations .exit)) ≡ emitNamed self RaiseUnboundLocal name (Operand.U16 (name % 65536)) [] (now (code .entry)) (now (locations .entry)) ⌝ }
     {
-        let word = narrowing::name_word(name);
+        let word = names::name_word(name);
         emission::emit_with_operand(
             self,
             opcodes::RAISE_UNBOUND_LOCAL,
@@ -478,7 +484,7 @@ impl Builder {
     ) -> Answer
         ensures { λ r. ⌜ outcome r (now (code .exit)) (now (locations .exit)) ≡ emitNamed self LoadGlobalCallable name (Operand.U16U16 slot (name % 65536)) [] (now (code .entry)) (now (locations .entry)) ⌝ }
     {
-        let word = narrowing::name_word(name);
+        let word = names::name_word(name);
         emission::emit_with_operand(
             self,
             opcodes::LOAD_GLOBAL_CALLABLE,
@@ -501,7 +507,7 @@ impl Builder {
     ) -> Answer
         ensures { λ r. ⌜ outcome r (now (code .exit)) (now (locations .exit)) ≡ emitNamed self opcode name (Operand.U16U16U8 slot (name % 65536) flags) [] (now (code .entry)) (now (locations .entry)) ⌝ }
     {
-        let word = narrowing::name_word(name);
+        let word = names::name_word(name);
         emission::emit_with_operand(
             self,
             opcode,
@@ -541,7 +547,7 @@ impl Builder {
             return Added::Refused(Refusal::Full(Table::Constants));
         }
         tables::row1(&mut constants[row..], value);
-        Added::Made(entries::with_constants(self, row + 1), row as u16)
+        Added::Made(constants::with_constants(self, row + 1), row as u16)
     }
 
     // Adds an exception handler. Innermost first, for nested blocks.
@@ -565,7 +571,7 @@ impl Builder {
         if exceptions.len() / EXCEPTION_CELLS < row {
             return Answer::Refused(Refusal::Unsound);
         }
-        if !entries::offsets_fit(start, end, handler) {
+        if !exceptions::offsets_fit(start, end, handler) {
             return Answer::Refused(Refusal::TooLarge);
         }
         if exceptions.len() / EXCEPTION_CELLS <= row {
@@ -579,9 +585,9 @@ impl Builder {
             handler as u32,
             stack_depth as u32,
             exception_stack_count as u32,
-            entries::kind_number(kind),
+            exceptions::kind_number(kind),
         );
-        Answer::Accepted(entries::with_exceptions(self, row + 1))
+        Answer::Accepted(exceptions::with_exceptions(self, row + 1))
     }
 
     // The depth here, none in dead code.
@@ -620,7 +626,7 @@ impl Builder {
         if marks.len() / MARK_CELLS < core.marks {
             return Answer::Refused(Refusal::Unsound);
         }
-        if names::any_open(core.marks, marks) {
+        if marks::any_open(core.marks, marks) {
             return Answer::Refused(Refusal::OpenLabel);
         }
         names::fill_absent(&mut names[..held], fill);

@@ -1,53 +1,23 @@
 // The one way in which instructions are emitted: decide, then commit.
-ghost use Prim.Native.Nat.{_+_, _≤_};
-ghost use Rattle.builder.specs.Emission.{locationRow, locationsAfter, rowsAfter, Committed, coreWith, coreOutcome, emitCore, outcome, emitNamed, emitOf};
-ghost use Rattle.builder.specs.Plan.{rowFits, Goes};
+ghost use Prim.Native.Nat.{_≤_, _+_};
+ghost use Rattle.builder.specs.Emission.{Committed, coreWith, coreOutcome, emitCore, outcome, emitNamed, emitOf};
+ghost use Rattle.builder.specs.Plan.{Goes};
 ghost use Rattle.builder.specs.Tables.{codeLimit};
-ghost use Rattle.code.specs.Bytes.{front};
 ghost use lib.ListN.{length};
-ghost use mathlib.Core.Bool.{true};
 ghost use mathlib.Core.List.{[]};
 ghost use mathlib.Core.Path.{_≡_};
 use crate::Answer;
 use crate::Builder;
 use crate::Core;
 use crate::Depth;
-use crate::LOCATION_CELLS;
 use crate::Location;
+use crate::locations;
 use crate::plan;
 use crate::plan::Plan;
 use crate::state;
 use crate::state::CoreAnswer;
-use crate::tables;
-use code::CodeRange;
-use code::Focus;
 use code::writer;
 use op::Operand;
-
-// A location's row at the front.
-fn write_row(out: &mut [u32], offset: u32, range: CodeRange, focus: Focus)
-    requires { ⌜ 6 ≤ length (now out) ⌝ }
-    ensures { λ r. ⌜ now (out .exit) ≡ front (locationRow offset range focus) (now (out .entry)) ⌝ }
-{
-    match focus {
-        Focus::Absent => tables::row6(out, offset, range.start, range.end, 0, 0, 0),
-        Focus::Present(f) => tables::row6(out, offset, range.start, range.end, 1, f.start, f.end),
-    }
-}
-
-// A location's row at the used end, where a location is set; the rows then used.
-fn write_location(location: Location, rows: usize, at: usize, locations: &mut [u32]) -> usize
-    requires { ⌜ (at ≤ codeLimit) × (rowFits location rows (length (now locations)) ≡ true) ⌝ }
-    ensures { λ r. ⌜ (r ≡ rowsAfter location rows) × (now (locations .exit) ≡ locationsAfter location rows at (now (locations .entry))) ⌝ }
-{
-    let Location::Set(range, focus) = location else {
-        return rows;
-    };
-    let base = rows * LOCATION_CELLS;
-    let offset = at as u32;
-    write_row(&mut locations[base..], offset, range, focus);
-    rows + 1
-}
 
 // One instruction and its location's row, at the used ends; the rows then used.
 pub fn commit(
@@ -64,7 +34,7 @@ pub fn commit(
 {
     let at = core.code;
     writer::write(&mut code[at..], opcode, operand, kwnames);
-    write_location(location, core.locations, at, locations)
+    locations::write_location(location, core.locations, at, locations)
 }
 
 // The core behind an instruction of so many bytes, with so many location rows.

@@ -6,13 +6,13 @@ use op::Refusal;
 
 mod back;
 mod calls;
+mod constants;
 mod emission;
-mod entries;
+mod exceptions;
 mod forward;
-mod jumps;
+mod locations;
 mod marks;
 mod names;
-mod narrowing;
 mod patch;
 mod plan;
 mod regions;

@@ -1,15 +1,22 @@
-// Reading marks, and how far a jump goes.
-ghost use mathlib.Core.Path.{_≡_};
-ghost use Prim.Native.Nat.{_+_, _≤_, _/_};
+// Marks: reading and making them, and how far a jump goes.
+ghost use Prim.Native.Nat.{_≤_, _+_, _/_};
+ghost use Rattle.builder.specs.Marks.{targetOutcome, targetAt, anyOpen, markOf, markIn, fits, markSound, markable, near, bits, meets, revived};
+ghost use Rattle.builder.specs.Tables.{codeLimit, markCells, jumpSize};
 ghost use lib.ListN.{length};
-ghost use Rattle.builder.specs.Tables.{markCells, jumpSize};
-ghost use Rattle.builder.specs.Marks.{markOf, markIn, fits, markSound, markable, near, bits, meets, revived};
+ghost use mathlib.Core.Path.{_≡_};
+use crate::Builder;
 use crate::CODE_LIMIT;
 use crate::Core;
 use crate::Depth;
 use crate::JUMP_SIZE;
+use crate::JumpTarget;
 use crate::MARK_CELLS;
+use crate::Targeted;
 use crate::WORD_MAX;
+use crate::state;
+use crate::tables;
+use op::Refusal;
+use op::Table;
 
 // A used mark with its offset and depth. Absent: the row is not used, or of no kind.
 pub enum Mark {
@@ -126,4 +133,42 @@ pub fn revive(here: Depth, depth: u16) -> Depth
         Depth::Dead => Depth::Live(depth),
         Depth::Live(e) => Depth::Live(e),
     }
+}
+
+// Whether one of the first `rows` marks is an open label.
+pub fn any_open(rows: usize, marks: &[u32]) -> bool
+    requires { ⌜ rows ≤ length (now marks) / markCells ⌝ }
+    ensures { λ r. ⌜ r ≡ anyOpen rows (now (marks .entry)) ⌝ }
+{
+    let mut i = 0;
+    let mut found = false;
+    while i < rows {
+        let base = i * MARK_CELLS;
+        found = found | (marks[base] == OPEN);
+        i += 1;
+    }
+    found
+}
+
+// A target's mark at the used end; `d` is the depth here.
+pub fn mark_target(b: Builder, d: u16, marks: &mut [u32]) -> Targeted
+    requires { ⌜ b .core .code ≤ codeLimit ⌝ }
+    ensures { λ r. ⌜ targetOutcome r (now (marks .exit)) ≡ targetAt (Depth.Live d) b (now (marks .entry)) ⌝ }
+{
+    let core = b.core;
+    let row = core.marks;
+    if marks.len() / MARK_CELLS <= row {
+        return Targeted::Refused(Refusal::Full(Table::Marks));
+    }
+    let base = row * MARK_CELLS;
+    let at = core.code;
+    tables::row4(&mut marks[base..], TARGET, at as u32, d as u32, 0);
+    let depth = core.depth;
+    let next = Core {
+        code: at,
+        locations: core.locations,
+        marks: row + 1,
+        depth,
+    };
+    Targeted::Made(state::with_core(b, next), JumpTarget::Row(row))
 }

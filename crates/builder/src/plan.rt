@@ -1,6 +1,7 @@
 // Deciding an emission, on numbers alone, in the order of document 01's line "Emitting calls".
 ghost use Prim.Native.Nat.{_≤_};
-ghost use Rattle.builder.specs.Plan.{soundOf, Sound, behind, rowFits, alsoRow, roomOf, bytesOf, liveOf, planOf};
+ghost use Rattle.builder.specs.Locations.{rowFits};
+ghost use Rattle.builder.specs.Plan.{soundOf, behind, alsoRow, roomOf, bytesOf, planOf};
 ghost use Rattle.builder.specs.Tables.{codeLimit};
 ghost use mathlib.Core.Path.{_≡_};
 use crate::CODE_LIMIT;
@@ -9,6 +10,7 @@ use crate::Depth;
 use crate::LOCATION_CELLS;
 use crate::Location;
 use crate::WORD_MAX;
+use crate::locations;
 use code::decoder;
 use op::After;
 use op::Operand;
@@ -51,16 +53,6 @@ fn behind_op(opcode: u8, e: u16) -> Depth
     Depth::Live(e)
 }
 
-// Whether a location that is set has room for its row.
-fn row_fits(location: Location, rows: usize, ll: usize) -> bool
-    ensures { λ r. ⌜ r ≡ rowFits location rows ll ⌝ }
-{
-    let Location::Set(_, _) = location else {
-        return true;
-    };
-    rows < ll / LOCATION_CELLS
-}
-
 // The same plan, where a table has room for the row that goes with it.
 pub fn also_row(plan: Plan, free: bool, table: Table) -> Plan
     ensures { λ r. ⌜ r ≡ alsoRow plan free table ⌝ }
@@ -81,7 +73,11 @@ pub fn also_row(plan: Plan, free: bool, table: Table) -> Plan
 pub fn also_location(plan: Plan, location: Location, rows: usize, ll: usize) -> Plan
     ensures { λ r. ⌜ r ≡ alsoRow plan (rowFits location rows ll) Table.Locations ⌝ }
 {
-    also_row(plan, row_fits(location, rows, ll), Table::Locations)
+    also_row(
+        plan,
+        locations::row_fits(location, rows, ll),
+        Table::Locations,
+    )
 }
 
 // Whether there is room for so many bytes.

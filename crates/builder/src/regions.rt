@@ -2,7 +2,8 @@
 ghost use mathlib.Core.Path.{_≡_};
 ghost use Prim.Native.Nat.{_≤_};
 ghost use Rattle.builder.specs.Tables.{codeLimit};
-ghost use Rattle.builder.specs.Calls.{freshAt, opened, kept, regionAt};
+ghost use Rattle.builder.specs.State.{kept};
+ghost use Rattle.builder.specs.Regions.{freshAt, opened, regionAt};
 use crate::Answer;
 use crate::Builder;
 use crate::Core;

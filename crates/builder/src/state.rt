@@ -1,6 +1,6 @@
 // The state around another core.
 ghost use mathlib.Core.Path.{_≡_};
-ghost use Rattle.builder.specs.Emission.{withCore, answerBy};
+ghost use Rattle.builder.specs.State.{withCore, answerBy};
 use crate::Answer;
 use crate::Builder;
 use crate::Core;

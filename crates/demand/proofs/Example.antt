@@ -14,9 +14,13 @@ use Rattle.op.specs.Shapes.{sizeOf}
 use Rattle.op.specs.declared.Operand.the-variants as O
 use Rattle.code.specs.Bytes.{signed}
 use Rattle.code.specs.Encode.{encode}
-use Rattle.builder.specs.Calls.{freshAt, newOf, regionOf, anyOpen, buildOf}
+use Rattle.builder.specs.Marks.{anyOpen}
+use Rattle.builder.specs.Regions.{freshAt, newOf, regionOf}
+use Rattle.builder.specs.Names.{buildOf}
 use Rattle.builder.specs.Emission.{emitCore, emitNamed}
-use Rattle.builder.specs.Forward.{jumpPlanOf, emitJumpOf, toLiveOf, toPlanOf, jumpToCore, emitJumpToOf, targetOf}
+use Rattle.builder.specs.Marks.{targetOf}
+use Rattle.builder.specs.Forward.{jumpPlanOf, emitJumpOf}
+use Rattle.builder.specs.Back.{toLiveOf, toPlanOf, jumpToCore, emitJumpToOf}
 use Rattle.builder.specs.Marks.{markOf, markIn, fits, markable, near, bits}
 use Rattle.builder.specs.Patch.{markPlanOf, patchPlanOf, patchJumpOf}
 use Rattle.builder.specs.Plan.{soundOf, roomOf, behind, bytesOf, liveOf, planOf}

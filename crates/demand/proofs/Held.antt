@@ -21,8 +21,9 @@ use Rattle.builder.specs.Tables.{put}
 use Rattle.builder.specs.Plan.{planOf}
 use Rattle.builder.specs.Emission.{commitOf, emitCore, outcomeBy, emitNamed}
 use Rattle.builder.specs.Marks.{markIn, markable}
-use Rattle.builder.specs.Forward.{unpatched, jumpBy, jumpPlanOf, commitJump, emitJumpOf}
-use Rattle.builder.specs.Forward.{toPlanOf, commitTo, jumpToCore, emitJumpToOf}
+use Rattle.builder.specs.Forward.{unpatched, jumpPlanOf, commitJump, emitJumpOf}
+use Rattle.builder.specs.Back.{jumpBy}
+use Rattle.builder.specs.Back.{toPlanOf, commitTo, jumpToCore, emitJumpToOf}
 use Rattle.builder.specs.Patch.{markPlanOf, patchPlanOf, commitPatch, patchJumpOf}
 use Rattle.demand.specs.World.{after, afterJump}
 use Rattle.builder.proofs.Putting.{length-put}

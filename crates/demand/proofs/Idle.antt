@@ -29,10 +29,12 @@ use Rattle.builder.specs.declared.marks.Mark.the-variants.{Absent, Open, Patche
 use Rattle.builder.specs.declared.plan.Plan.{Plan}
 use Rattle.builder.specs.declared.plan.Plan.the-variants.{Idle, Refuse, Go}
 use Rattle.builder.specs.Tables.{codeLimit, wordMax, markCells, rowsIn, rowFree}
-use Rattle.builder.specs.Plan.{guard, soundOf, behind, alsoRow, roomOf, fallenOf, bytesOf, liveOf, depthOf, planOf, rowFits}
+use Rattle.builder.specs.Locations.{rowFits}
+use Rattle.builder.specs.Plan.{guard, soundOf, behind, alsoRow, roomOf, fallenOf, bytesOf, liveOf, depthOf, planOf}
 use Rattle.builder.specs.Marks.{targetMark, markSound, meets, revived, bits, near}
-use Rattle.builder.specs.Forward.{unpatched, jumpBy, jumpPlanOf, takenPlan, jumpDepth}
-use Rattle.builder.specs.Forward.{spotOf, aimOf, toLiveOf, toDepth, toPlanOf}
+use Rattle.builder.specs.Forward.{unpatched, jumpPlanOf, takenPlan, jumpDepth}
+use Rattle.builder.specs.Back.{jumpBy}
+use Rattle.builder.specs.Back.{spotOf, aimOf, toLiveOf, toDepth, toPlanOf}
 use Rattle.builder.specs.Patch.{openPlan, markPlanOf}
 
 never : {B : Type 0} {r : Refusal} → Refuse r ≡ Idle → B

@@ -27,9 +27,16 @@ use Rattle.builder.specs.declared.Targeted.the-variants as G
 use Rattle.builder.specs.Tables.{codeLimit, wordMax, exceptionCells, markCells, startCells, rowsIn, rowFree}
 use Rattle.builder.specs.Plan.{planOf}
 use Rattle.builder.specs.Emission.{commitOf, emitCore, outcomeBy, emitNamed}
-use Rattle.builder.specs.Forward.{jumpPlanOf, commitJump, emitJumpOf, toPlanOf, commitTo, jumpToCore, emitJumpToOf, TargetOutcome, targetAt, targetOf}
+use Rattle.builder.specs.Marks.{TargetOutcome, targetAt, targetOf}
+use Rattle.builder.specs.Forward.{jumpPlanOf, commitJump, emitJumpOf}
+use Rattle.builder.specs.Back.{toPlanOf, commitTo, jumpToCore, emitJumpToOf}
 use Rattle.builder.specs.Patch.{patchPlanOf, commitPatch, patchJumpOf}
-use Rattle.builder.specs.Calls.{AddedKept, addConstOf, withConstants, Kept, kept, unless, countsOf, freshAt, offsetsFit, withExceptions, withNames, newOf, regionAt, regionOf, addExceptionOf, registerNamesOf, registerNameOf, anyOpen, buildOf}
+use Rattle.builder.specs.State.{Kept, kept, unless, countsOf}
+use Rattle.builder.specs.Marks.{anyOpen}
+use Rattle.builder.specs.Regions.{freshAt, newOf, regionAt, regionOf}
+use Rattle.builder.specs.Constants.{AddedKept, addConstOf, withConstants}
+use Rattle.builder.specs.Exceptions.{offsetsFit, withExceptions, addExceptionOf}
+use Rattle.builder.specs.Names.{withNames, registerNamesOf, registerNameOf, buildOf}
 
 -- refused: the tables are as they were
 

@@ -19,7 +19,8 @@ use Rattle.builder.specs.declared.marks.Mark.the-variants.{Open, Patched, Targe
 use Rattle.builder.specs.Tables.{wordMax}
 use Rattle.builder.specs.Plan.{behind}
 use Rattle.builder.specs.Marks.{meets, bits, near}
-use Rattle.builder.specs.Forward.{unpatched, jumpBy}
+use Rattle.builder.specs.Forward.{unpatched}
+use Rattle.builder.specs.Back.{jumpBy}
 use Rattle.demand.proofs.View.{View, Moved}
 use Rattle.demand.specs.History.{emitJump, emitJumpTo, patchJump, jumpTarget, newRegion, ok, label, target}
 use Rattle.demand.proofs.View.{labelled, jumped, patched, spotted, opened}

@@ -4,9 +4,11 @@ use mathlib.Core.Path.{_≡_, sym, ap}
 use mathlib.Core.List.{List}
 use Prim.Native.Nat.{ℕ}
 use Rattle.builder.specs.Emission.{Outcome, outcome}
-use Rattle.builder.specs.Forward.{JumpOutcome, jumpOutcome, TargetOutcome, targetOutcome}
+use Rattle.builder.specs.Marks.{TargetOutcome, targetOutcome}
+use Rattle.builder.specs.Forward.{JumpOutcome, jumpOutcome}
 use Rattle.builder.specs.Patch.{PatchOutcome, patchOutcome}
-use Rattle.builder.specs.Calls.{Kept, kept, AddedKept, addedKept}
+use Rattle.builder.specs.State.{Kept, kept}
+use Rattle.builder.specs.Constants.{AddedKept, addedKept}
 use Rattle.builder.specs.declared.Added.{Added}
 use Rattle.builder.specs.declared.Answer.{Answer}
 use Rattle.builder.specs.declared.Jumped.{Jumped}

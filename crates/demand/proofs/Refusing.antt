@@ -11,9 +11,14 @@ use Rattle.op.specs.declared.Operand.the-variants as O
 use Rattle.op.specs.declared.Refusal.{Refusal}
 use Rattle.builder.specs.Emission.{LoadGlobalCallable, CallBuiltinFunction, CallBuiltinType, CallFunctionKw, CallAttrKw, loadOp, loadOperand, storeOp, storeOperand}
 use Rattle.builder.specs.Emission.{Outcome, emitNamed}
-use Rattle.builder.specs.Forward.{emitJumpOf, emitJumpToOf, targetOf}
+use Rattle.builder.specs.Marks.{targetOf}
+use Rattle.builder.specs.Forward.{emitJumpOf}
+use Rattle.builder.specs.Back.{emitJumpToOf}
 use Rattle.builder.specs.Patch.{patchJumpOf}
-use Rattle.builder.specs.Calls.{regionOf, addConstOf, addExceptionOf, registerNamesOf, registerNameOf, buildOf}
+use Rattle.builder.specs.Regions.{regionOf}
+use Rattle.builder.specs.Constants.{addConstOf}
+use Rattle.builder.specs.Exceptions.{addExceptionOf}
+use Rattle.builder.specs.Names.{registerNamesOf, registerNameOf, buildOf}
 use Rattle.builder.specs.declared.Added.{Added}
 use Rattle.builder.specs.declared.Added.the-variants as N
 use Rattle.builder.specs.declared.Answer.{Answer}

@@ -15,7 +15,11 @@ use Rattle.code.proofs.Inverse.{SignsFit}
 use Rattle.builder.specs.Tables.{startCells}
 use Rattle.builder.specs.Emission.{LoadGlobalCallable, CallBuiltinFunction, CallBuiltinType, CallFunctionKw, CallAttrKw, loadOp, loadOperand, storeOp, storeOperand}
 use Rattle.builder.specs.Emission.{emitNamed}
-use Rattle.builder.specs.Calls.{Kept, addConstOf, addExceptionOf, registerNamesOf, registerNameOf, buildOf, withLocation}
+use Rattle.builder.specs.State.{Kept}
+use Rattle.builder.specs.Locations.{withLocation}
+use Rattle.builder.specs.Constants.{addConstOf}
+use Rattle.builder.specs.Exceptions.{addExceptionOf}
+use Rattle.builder.specs.Names.{registerNamesOf, registerNameOf, buildOf}
 use Rattle.builder.specs.declared.Added.{Added}
 use Rattle.builder.specs.declared.Added.the-variants as N
 use Rattle.builder.specs.declared.Answer.{Answer}

@@ -19,7 +19,8 @@ use Rattle.op.specs.declared.Refusal.{Refusal}
 use Rattle.code.specs.Decode.{namesIn}
 use Rattle.code.specs.Encode.{encode}
 use Rattle.code.proofs.Inverse.{SignsFit}
-use Rattle.builder.specs.Forward.{unpatched, jumpBy}
+use Rattle.builder.specs.Forward.{unpatched}
+use Rattle.builder.specs.Back.{jumpBy}
 use Rattle.builder.specs.Marks.{near, bits, meets}
 use Rattle.builder.specs.Plan.{behind}
 use Rattle.builder.specs.declared.Depth.{Depth}

@@ -24,7 +24,8 @@ use Rattle.demand.specs.History.{Call, emit, emitJump, emitJumpTo, patch
 use Rattle.builder.specs.Tables.{startCells, wordMax, jumpSize}
 use Rattle.builder.specs.Plan.{behind}
 use Rattle.builder.specs.Marks.{markAt, near, bits, meets}
-use Rattle.builder.specs.Forward.{unpatched, jumpBy}
+use Rattle.builder.specs.Forward.{unpatched}
+use Rattle.builder.specs.Back.{jumpBy}
 
 -- the first n values of f
 unfoldable pub tab : {A : Type 0} → ℕ → (ℕ → A) → List A

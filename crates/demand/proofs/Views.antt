@@ -31,11 +31,13 @@ use Rattle.builder.specs.Tables.{codeLimit, markCells, startCells, rowsIn, rowF
 use Rattle.builder.specs.Plan.{guard, planOf}
 use Rattle.builder.specs.Emission.{commitOf, emitCore, outcomeBy, emitNamed}
 use Rattle.builder.specs.Marks.{openKind, targetKind, markAt, markIn, markOf, markable, meets, revived}
-use Rattle.builder.specs.Forward.{unpatched, jumpBy, jumpPlanOf, commitJump, emitJumpOf}
-use Rattle.builder.specs.Forward.{toPlanOf, commitTo, jumpToCore, emitJumpToOf}
-use Rattle.builder.specs.Forward.{targetAt, targetOf}
+use Rattle.builder.specs.Forward.{unpatched, jumpPlanOf, commitJump, emitJumpOf}
+use Rattle.builder.specs.Back.{jumpBy}
+use Rattle.builder.specs.Back.{toPlanOf, commitTo, jumpToCore, emitJumpToOf}
+use Rattle.builder.specs.Marks.{targetAt, targetOf}
 use Rattle.builder.specs.Patch.{markPlanOf, patchPlanOf, commitPatch, patchJumpOf}
-use Rattle.builder.specs.Calls.{kept, unless, countsOf, freshAt, newOf, regionAt, regionOf}
+use Rattle.builder.specs.State.{kept, unless, countsOf}
+use Rattle.builder.specs.Regions.{freshAt, newOf, regionAt, regionOf}
 use Rattle.demand.specs.History.{born}
 use Rattle.demand.specs.World.{given, after, givenJump, afterJump, givenTarget, afterTarget}
 use Rattle.demand.proofs.View.{viewOf, tab, Moved}

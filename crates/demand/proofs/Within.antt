@@ -13,9 +13,13 @@ use Rattle.op.specs.declared.Refusal.the-variants.{Full}
 use Rattle.op.specs.declared.Table.the-variants.{Starts}
 use Rattle.builder.specs.Tables.{codeLimit, markCells, startCells, rowsIn, rowFree, put}
 use Rattle.builder.specs.Emission.{CoreOutcome, emitCore, outcomeBy, emitNamed}
-use Rattle.builder.specs.Forward.{jumpPlanOf, commitJump, emitJumpOf, jumpToCore, emitJumpToOf, TargetOutcome, targetAt, targetOf}
+use Rattle.builder.specs.Marks.{TargetOutcome, targetAt, targetOf}
+use Rattle.builder.specs.Forward.{jumpPlanOf, commitJump, emitJumpOf}
+use Rattle.builder.specs.Back.{jumpToCore, emitJumpToOf}
 use Rattle.builder.specs.Patch.{patchPlanOf, commitPatch, patchJumpOf}
-use Rattle.builder.specs.Calls.{Kept, kept, unless, countsOf, freshAt, opened, newOf, regionAt, regionOf, AddedKept}
+use Rattle.builder.specs.State.{Kept, kept, unless, countsOf}
+use Rattle.builder.specs.Regions.{freshAt, opened, newOf, regionAt, regionOf}
+use Rattle.builder.specs.Constants.{AddedKept}
 use Rattle.builder.specs.declared.Added.{Added}
 use Rattle.builder.specs.declared.Added.the-variants as N
 use Rattle.builder.specs.declared.Answer.{Answer}

@@ -10,7 +10,8 @@ use mathlib.Core.Option.{Option, some, none}
 use Prim.Native.Nat.{ℕ, _*_, _≤_, _<_}
 use lib.ListN.{length, take}
 use Rattle.code.specs.Depths.{Smallest, Derived}
-use Rattle.builder.specs.Calls.{newOf, buildOf}
+use Rattle.builder.specs.Regions.{newOf}
+use Rattle.builder.specs.Names.{buildOf}
 use Rattle.builder.specs.Tables.{startCells}
 use Rattle.builder.specs.declared.Answer.the-variants.{Accepted}
 use Rattle.builder.specs.declared.Builder.{Builder}

@@ -18,9 +18,10 @@ use Rattle.builder.specs.Tables.{put}
 use Rattle.builder.specs.Plan.{soundOf, roomOf, behind, bytesOf, liveOf, planOf}
 use Rattle.builder.specs.Emission.{emitCore, emitNamed}
 use Rattle.builder.specs.Marks.{markOf, markIn, fits, markable, near, bits}
-use Rattle.builder.specs.Forward.{jumpPlanOf, emitJumpOf, toLiveOf, toPlanOf, jumpToCore, emitJumpToOf}
+use Rattle.builder.specs.Forward.{jumpPlanOf, emitJumpOf}
+use Rattle.builder.specs.Back.{toLiveOf, toPlanOf, jumpToCore, emitJumpToOf}
 use Rattle.builder.specs.Patch.{markPlanOf, patchPlanOf, patchJumpOf}
-use Rattle.builder.specs.Calls.{addConstOf}
+use Rattle.builder.specs.Constants.{addConstOf}
 use Rattle.checker.specs.Cells.{held}
 use Rattle.checker.proofs.Certificate.{certificate, must-accept, must-refuse}
 use Rattle.examples.specs.Table.{Examples, code-a, code-k, from-zero}

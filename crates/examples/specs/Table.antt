@@ -29,9 +29,10 @@ use Rattle.builder.specs.declared.Location.the-variants.{Unset}
 use Rattle.builder.specs.Tables.{put}
 use Rattle.builder.specs.Emission.{outcome, emitOf, emitNamed, CallFunctionKw, loadOp, loadOperand}
 use Rattle.builder.specs.Marks.{bits, markRow, openKind, patchedKind, targetKind}
-use Rattle.builder.specs.Forward.{jumpOutcome, emitJumpOf, emitJumpToOf}
+use Rattle.builder.specs.Forward.{jumpOutcome, emitJumpOf}
+use Rattle.builder.specs.Back.{emitJumpToOf}
 use Rattle.builder.specs.Patch.{patchOutcome, patchJumpOf}
-use Rattle.builder.specs.Calls.{addedKept, addConstOf}
+use Rattle.builder.specs.Constants.{addedKept, addConstOf}
 use Rattle.checker.specs.declared.Checked.{Checked}
 use Rattle.checker.specs.declared.Checked.the-variants as C
 use Rattle.checker.specs.Promise.{Promise}

@@ -1,7 +1,7 @@
 -- `builder::back::decide_to` meets its contract: its tests are the definition's, in document 01's order.
 -- Assumes nothing.
 use Rattle.builder.proofs.Plans.{sound-true}
-use Rattle.builder.specs.Forward.{toPlanOf}
+use Rattle.builder.specs.Back.{toPlanOf}
 use Rattle.op.specs.Opcodes.{known}
 use borrow.Author.Needs.{needs}
 use borrow.Author.Tests.{le-leb, lt-leb, not-false, not-true}

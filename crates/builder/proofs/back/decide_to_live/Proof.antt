@@ -1,6 +1,6 @@
 -- `builder::back::decide_to_live` meets its contract: the taken depth is op's, and the arms are the definition's.
 -- Assumes nothing.
-use Rattle.builder.specs.Forward.{toLiveOf}
+use Rattle.builder.specs.Back.{toLiveOf}
 use mathlib.Core.Path.{_∙_, sym}
 use borrow.Author.Needs.{needs}
 use Rattle.builder.proofs.back.decide_to_live.Statement.{statement}

@@ -1,6 +1,6 @@
 -- `builder::back::jump_nowhere` meets its contract: its tests are the definition's, and no mark is read.
 -- Assumes nothing.
-use Rattle.builder.specs.Forward.{jumpToCore, toLiveOf, toPlanOf}
+use Rattle.builder.specs.Back.{jumpToCore, toLiveOf, toPlanOf}
 use Rattle.op.specs.Opcodes.{known}
 use borrow.Author.Tests.{le-leb, lt-leb, not-false, not-true}
 use mathlib.Core.Path.{_∙_, sym}

@@ -1,24 +1,24 @@
-// What `add_const` and `add_exception_entry` share with no other call.
-ghost use mathlib.Core.Path.{_≡_};
+// Exceptions: the cells of a row.
+ghost use Rattle.builder.specs.Exceptions.{offsetsFit, withExceptions};
 ghost use Rattle.code.specs.Entries.{kindNumber};
-ghost use Rattle.builder.specs.Calls.{offsetsFit, withConstants, withExceptions};
+ghost use mathlib.Core.Path.{_≡_};
 use crate::Builder;
 use code::HandlerKind;
 
 // The greatest offset that an exception's row holds.
 const OFFSET_MAX: usize = 4294967295;
 
-// The state with so many constants.
-pub fn with_constants(b: Builder, constants: usize) -> Builder
-    ensures { λ r. ⌜ r ≡ withConstants b constants ⌝ }
+// The state with so many exceptions.
+pub fn with_exceptions(b: Builder, exceptions: usize) -> Builder
+    ensures { λ r. ⌜ r ≡ withExceptions b exceptions ⌝ }
 {
     let core = b.core;
     let location = b.location;
     Builder {
         core,
         location,
-        exceptions: b.exceptions,
-        constants,
+        exceptions,
+        constants: b.constants,
         names: b.names,
         starts: b.starts,
     }
@@ -45,20 +45,4 @@ pub fn offsets_fit(start: usize, end: usize, handler: usize) -> bool
         return false;
     }
     handler <= OFFSET_MAX
-}
-
-// The state with so many exceptions.
-pub fn with_exceptions(b: Builder, exceptions: usize) -> Builder
-    ensures { λ r. ⌜ r ≡ withExceptions b exceptions ⌝ }
-{
-    let core = b.core;
-    let location = b.location;
-    Builder {
-        core,
-        location,
-        exceptions,
-        constants: b.constants,
-        names: b.names,
-        starts: b.starts,
-    }
 }

@@ -1,9 +1,9 @@
--- `builder::plan::row_fits` meets its contract: an arm for each variant, and the definition's test.
+-- `builder::locations::row_fits` meets its contract: an arm for each variant, and the definition's test.
 -- Assumes nothing.
 use borrow.Author.Needs.{needs}
 use mathlib.Core.Path.{refl}
-use Rattle.builder.proofs.plan.row_fits.Statement.{statement}
-use Rattle.builder.proofs.plan.row_fits.Tie as tie
+use Rattle.builder.proofs.locations.row_fits.Statement.{statement}
+use Rattle.builder.proofs.locations.row_fits.Tie as tie
 
 enum-told : tie.Need-enum-told
 enum-told c = search needs

@@ -1,16 +1,16 @@
--- `builder::emission::write_location` meets its contract: a row is free where a location is set, and the lent part comes back with it.
+-- `builder::locations::write_location` meets its contract: a row is free where a location is set, and the lent part comes back with it.
 -- Assumes nothing.
 use Prim.Native.Nat.{_*_, _+_, _/_, _<_, _≤_}
 use Rattle.builder.proofs.Emitted.{set-arm}
 use Rattle.builder.proofs.Putting.{length-lent, put-lent}
-use Rattle.builder.specs.Emission.{locationRow}
+use Rattle.builder.specs.Locations.{locationRow}
 use Rattle.builder.specs.Tables.{locationCells}
 use borrow.Author.Needs.{needs}
 use borrow.Author.Tests.{ltb-true}
 use lib.ListN.{length}
 use native.Mathlib.Omega.{arith}
-use Rattle.builder.proofs.emission.write_location.Statement.{statement}
-use Rattle.builder.proofs.emission.write_location.Tie as tie
+use Rattle.builder.proofs.locations.write_location.Statement.{statement}
+use Rattle.builder.proofs.locations.write_location.Tie as tie
 
 -- a row is free where a location is set
 free : (c : tie.After-known-told) → c .before .before .before .before .args .rows < length (c .before .before .before .before .args .locations .now) / locationCells

@@ -1,9 +1,9 @@
--- `builder::entries::offsets_fit` meets its contract: its tests are the definition's.
+-- `builder::exceptions::offsets_fit` meets its contract: its tests are the definition's.
 -- Assumes nothing.
-use Rattle.builder.specs.Calls.{offsetsFit}
+use Rattle.builder.specs.Exceptions.{offsetsFit}
 use borrow.Author.Tests.{le-leb, lt-leb}
-use Rattle.builder.proofs.entries.offsets_fit.Statement.{statement}
-use Rattle.builder.proofs.entries.offsets_fit.Tie as tie
+use Rattle.builder.proofs.exceptions.offsets_fit.Statement.{statement}
+use Rattle.builder.proofs.exceptions.offsets_fit.Tie as tie
 
 returns : tie.Need-returns
 unfolding offsetsFit

@@ -1,8 +1,8 @@
--- `builder::emission::write_row` meets its contract: an arm for each variant.
+-- `builder::locations::write_row` meets its contract: an arm for each variant.
 -- Assumes nothing.
 use borrow.Author.Needs.{needs}
-use Rattle.builder.proofs.emission.write_row.Statement.{statement}
-use Rattle.builder.proofs.emission.write_row.Tie as tie
+use Rattle.builder.proofs.locations.write_row.Statement.{statement}
+use Rattle.builder.proofs.locations.write_row.Tie as tie
 
 enum-told : tie.Need-enum-told
 enum-told c = search needs
