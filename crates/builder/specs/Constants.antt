@@ -9,7 +9,6 @@ use Rattle.op.specs.declared.Refusal.the-variants.{TooManyConstants, Full, Unso
 use Rattle.op.specs.declared.Table.the-variants.{Constants}
 use Rattle.builder.specs.declared.Added.{Added}
 use Rattle.builder.specs.declared.Added.the-variants as N
-use Rattle.builder.specs.declared.Answer.the-variants.{Refused}
 use Rattle.builder.specs.declared.Builder.{Builder}
 use Rattle.builder.specs.Tables.{put, wordMax}
 use Rattle.builder.specs.State.{countsOf}

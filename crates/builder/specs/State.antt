@@ -1,4 +1,5 @@
--- The state around a change, and the answer of a call that is lent one table: document 01, "Others, dead or live: 19, their own refusals, 18".
+-- The state around a change, and the answer of a call that is lent one table: document 01, "Others, dead or live: 19,
+-- their own refusals, 18".
 -- Assumes nothing.
 use mathlib.Core.Bool.{_&&_, Bool, true, false}
 use mathlib.Core.List.{List}
@@ -40,6 +41,7 @@ withMarks c n = record { code = c .code; locations = c .locations; marks = n; de
 abbrev pub withDepth : Core → Depth → Core
 withDepth c d = record { code = c .code; locations = c .locations; marks = c .marks; depth = d }
 
+-- whether the code is dead
 abbrev pub deadOf : Depth → Bool
 deadOf Dead = true
 deadOf (Live d) = false

@@ -124,7 +124,9 @@ pub fn jump_nowhere(
     locations: &[u32],
     marks: &[u32],
 ) -> CoreAnswer
-    ensures { λ r. ⌜ coreOutcome r (now (code .entry)) (now (locations .entry)) ≡ jumpToCore core location opcode JumpTarget.Dead (now (code .entry)) (now (locations .entry)) (now (marks .entry)) ⌝ }
+    ensures { λ r. ⌜ coreOutcome r (now (code .entry)) (now (locations .entry))
+        ≡ jumpToCore core location opcode JumpTarget.Dead (now (code .entry)) (now (locations .entry))
+        (now (marks .entry)) ⌝ }
 {
     if !plan::sound(core, code.len(), locations.len()) {
         return CoreAnswer::Refused(Refusal::Unsound);
@@ -156,7 +158,9 @@ pub fn jump_to_core(
     locations: &mut [u32],
     marks: &[u32],
 ) -> CoreAnswer
-    ensures { λ r. ⌜ coreOutcome r (now (code .exit)) (now (locations .exit)) ≡ jumpToCore core location opcode (JumpTarget.Row row) (now (code .entry)) (now (locations .entry)) (now (marks .entry)) ⌝ }
+    ensures { λ r. ⌜ coreOutcome r (now (code .exit)) (now (locations .exit))
+        ≡ jumpToCore core location opcode (JumpTarget.Row row) (now (code .entry)) (now (locations .entry))
+        (now (marks .entry)) ⌝ }
 {
     let plan = decide_to(
         core,

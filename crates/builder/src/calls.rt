@@ -1,5 +1,7 @@
-// The public calls, in the order of builder.rs. Each decides before it writes.
-// The modules behind hold what they share.
+// The public calls of CodeBuilder, in the order of builder.rs and with its names. Each decides before it writes, and
+// what it is told is not trusted. A call's comment says what it does, then which of document 01's refusals it can give,
+// in their order. "Then, live," is where dead code is accepted and nothing changes; 18 names the first table without
+// room, of code, locations, marks. The modules behind hold what the calls share, each what its name says.
 ghost use Prim.Native.Nat.{_%_};
 ghost use Rattle.builder.specs.State.{deadOf, kept};
 ghost use Rattle.builder.specs.Locations.{positionOf, withLocation};
@@ -51,7 +53,8 @@ use op::Table;
 use op::opcodes;
 
 impl Builder {
-    // A new builder, told dead, or live at a depth: its start.
+    // Makes a builder with nothing in it, told that it is dead, or live at a depth. Told live, it stores its start.
+    // Refuses 18.
     pub fn new(told: Depth, starts: &mut [u32]) -> Answer
         ensures { λ r. ⌜ kept r (now (starts .exit)) ≡ newOf told (now (starts .entry)) ⌝ }
     {
@@ -66,6 +69,7 @@ impl Builder {
     }
 
     // Sets the source location of the instructions to come.
+    // Never refuses.
     pub fn set_location(self, range: CodeRange, focus: Focus) -> Builder
         ensures { λ r. ⌜ r ≡ withLocation self (Location.Set range focus) ⌝ }
     {
@@ -80,26 +84,35 @@ impl Builder {
         }
     }
 
-    // Emits an instruction without an operand.
+    // Emits an instruction without an operand, and follows the depth.
+    // Refuses 19, 1, then, live, 2, 4, 5, 18.
     pub fn emit(self, opcode: u8, code: &mut [u8], locations: &mut [u32]) -> Answer
-        ensures { λ r. ⌜ outcome r (now (code .exit)) (now (locations .exit)) ≡ emitOf self opcode Operand.None [] (now (code .entry)) (now (locations .entry)) ⌝ }
+        ensures { λ r. ⌜ outcome r (now (code .exit)) (now (locations .exit))
+            ≡ emitOf self opcode Operand.None [] (now (code .entry)) (now (locations .entry)) ⌝ }
     {
         emission::emit_with_operand(self, opcode, 0, Operand::None, code, locations)
     }
 
+    // Emits an instruction with a u8.
+    // Refuses 19, 1, then, live, 2, 4, 5, 18.
     pub fn emit_u8(self, opcode: u8, operand: u8, code: &mut [u8], locations: &mut [u32]) -> Answer
-        ensures { λ r. ⌜ outcome r (now (code .exit)) (now (locations .exit)) ≡ emitOf self opcode (Operand.U8 operand) [] (now (code .entry)) (now (locations .entry)) ⌝ }
+        ensures { λ r. ⌜ outcome r (now (code .exit)) (now (locations .exit))
+            ≡ emitOf self opcode (Operand.U8 operand) [] (now (code .entry)) (now (locations .entry)) ⌝ }
     {
         emission::emit_with_operand(self, opcode, 0, Operand::U8(operand), code, locations)
     }
 
+    // Emits an instruction with an i8.
+    // Refuses 19, 1, then, live, 2, 5, 18.
     pub fn emit_i8(self, opcode: u8, operand: i8, code: &mut [u8], locations: &mut [u32]) -> Answer
-        ensures { λ r. ⌜ outcome r (now (code .exit)) (now (locations .exit)) ≡ emitOf self opcode (Operand.I8 operand) [] (now (code .entry)) (now (locations .entry)) ⌝ }
+        ensures { λ r. ⌜ outcome r (now (code .exit)) (now (locations .exit))
+            ≡ emitOf self opcode (Operand.I8 operand) [] (now (code .entry)) (now (locations .entry)) ⌝ }
     {
         emission::emit_with_operand(self, opcode, 0, Operand::I8(operand), code, locations)
     }
 
-    // Used for UnpackEx: the counts before and after.
+    // Emits an instruction with two u8: UnpackEx, with the counts before and after.
+    // Refuses 19, 1, then, live, 2, 4, 5, 18.
     pub fn emit_u8_u8(
         self,
         opcode: u8,
@@ -108,7 +121,8 @@ impl Builder {
         code: &mut [u8],
         locations: &mut [u32],
     ) -> Answer
-        ensures { λ r. ⌜ outcome r (now (code .exit)) (now (locations .exit)) ≡ emitOf self opcode (Operand.U8U8 operand1 operand2) [] (now (code .entry)) (now (locations .entry)) ⌝ }
+        ensures { λ r. ⌜ outcome r (now (code .exit)) (now (locations .exit))
+            ≡ emitOf self opcode (Operand.U8U8 operand1 operand2) [] (now (code .entry)) (now (locations .entry)) ⌝ }
     {
         emission::emit_with_operand(
             self,
@@ -120,6 +134,8 @@ impl Builder {
         )
     }
 
+    // Emits an instruction with a u16.
+    // Refuses 19, 1, then, live, 2, 4, 5, 18.
     pub fn emit_u16(
         self,
         opcode: u8,
@@ -127,12 +143,14 @@ impl Builder {
         code: &mut [u8],
         locations: &mut [u32],
     ) -> Answer
-        ensures { λ r. ⌜ outcome r (now (code .exit)) (now (locations .exit)) ≡ emitOf self opcode (Operand.U16 operand) [] (now (code .entry)) (now (locations .entry)) ⌝ }
+        ensures { λ r. ⌜ outcome r (now (code .exit)) (now (locations .exit))
+            ≡ emitOf self opcode (Operand.U16 operand) [] (now (code .entry)) (now (locations .entry)) ⌝ }
     {
         emission::emit_with_operand(self, opcode, 0, Operand::U16(operand), code, locations)
     }
 
-    // Used for LoadSubmodule: the attribute and the dotted path.
+    // Emits an instruction with two u16: LoadSubmodule, with the attribute and the dotted path.
+    // Refuses 19, 1, then, live, 2, 5, 18.
     pub fn emit_u16_u16(
         self,
         opcode: u8,
@@ -141,7 +159,8 @@ impl Builder {
         code: &mut [u8],
         locations: &mut [u32],
     ) -> Answer
-        ensures { λ r. ⌜ outcome r (now (code .exit)) (now (locations .exit)) ≡ emitOf self opcode (Operand.U16U16 operand1 operand2) [] (now (code .entry)) (now (locations .entry)) ⌝ }
+        ensures { λ r. ⌜ outcome r (now (code .exit)) (now (locations .exit))
+            ≡ emitOf self opcode (Operand.U16U16 operand1 operand2) [] (now (code .entry)) (now (locations .entry)) ⌝ }
     {
         emission::emit_with_operand(
             self,
@@ -153,7 +172,8 @@ impl Builder {
         )
     }
 
-    // Used for MakeFunction, CallAttr, CallAttrExtended.
+    // Emits an instruction with a u16 and a u8: MakeFunction, CallAttr, CallAttrExtended.
+    // Refuses 19, 1, then, live, 2, 4, 5, 18.
     pub fn emit_u16_u8(
         self,
         opcode: u8,
@@ -162,7 +182,8 @@ impl Builder {
         code: &mut [u8],
         locations: &mut [u32],
     ) -> Answer
-        ensures { λ r. ⌜ outcome r (now (code .exit)) (now (locations .exit)) ≡ emitOf self opcode (Operand.U16U8 operand1 operand2) [] (now (code .entry)) (now (locations .entry)) ⌝ }
+        ensures { λ r. ⌜ outcome r (now (code .exit)) (now (locations .exit))
+            ≡ emitOf self opcode (Operand.U16U8 operand1 operand2) [] (now (code .entry)) (now (locations .entry)) ⌝ }
     {
         emission::emit_with_operand(
             self,
@@ -174,7 +195,8 @@ impl Builder {
         )
     }
 
-    // Used for MakeClosure: the function, the counts of defaults and cells.
+    // Emits an instruction with a u16 and two u8: MakeClosure, with the function and the counts of defaults and cells.
+    // Refuses 19, 1, then, live, 2, 4, 5, 18.
     pub fn emit_u16_u8_u8(
         self,
         opcode: u8,
@@ -184,7 +206,9 @@ impl Builder {
         code: &mut [u8],
         locations: &mut [u32],
     ) -> Answer
-        ensures { λ r. ⌜ outcome r (now (code .exit)) (now (locations .exit)) ≡ emitOf self opcode (Operand.U16U8U8 operand1 operand2 operand3) [] (now (code .entry)) (now (locations .entry)) ⌝ }
+        ensures { λ r. ⌜ outcome r (now (code .exit)) (now (locations .exit))
+            ≡ emitOf self opcode (Operand.U16U8U8 operand1 operand2 operand3) [] (now (code .entry))
+            (now (locations .entry)) ⌝ }
     {
         emission::emit_with_operand(
             self,
@@ -196,6 +220,8 @@ impl Builder {
         )
     }
 
+    // Emits CallBuiltinFunction, with the function's number and the count of arguments.
+    // Refuses 19, then, live, 4, 5, 18.
     pub fn emit_call_builtin_function(
         self,
         builtin: u8,
@@ -203,7 +229,9 @@ impl Builder {
         code: &mut [u8],
         locations: &mut [u32],
     ) -> Answer
-        ensures { λ r. ⌜ outcome r (now (code .exit)) (now (locations .exit)) ≡ emitOf self CallBuiltinFunction (Operand.U8U8 builtin count) [] (now (code .entry)) (now (locations .entry)) ⌝ }
+        ensures { λ r. ⌜ outcome r (now (code .exit)) (now (locations .exit))
+            ≡ emitOf self CallBuiltinFunction (Operand.U8U8 builtin count) [] (now (code .entry))
+            (now (locations .entry)) ⌝ }
     {
         self.emit_u8_u8(
             opcodes::CALL_BUILTIN_FUNCTION,
@@ -214,6 +242,8 @@ impl Builder {
         )
     }
 
+    // Emits CallBuiltinType, with the type's number and the count of arguments.
+    // Refuses 19, then, live, 4, 5, 18.
     pub fn emit_call_builtin_type(
         self,
         builtin: u8,
@@ -221,12 +251,15 @@ impl Builder {
         code: &mut [u8],
         locations: &mut [u32],
     ) -> Answer
-        ensures { λ r. ⌜ outcome r (now (code .exit)) (now (locations .exit)) ≡ emitOf self CallBuiltinType (Operand.U8U8 builtin count) [] (now (code .entry)) (now (locations .entry)) ⌝ }
+        ensures { λ r. ⌜ outcome r (now (code .exit)) (now (locations .exit))
+            ≡ emitOf self CallBuiltinType (Operand.U8U8 builtin count) [] (now (code .entry))
+            (now (locations .entry)) ⌝ }
     {
         self.emit_u8_u8(opcodes::CALL_BUILTIN_TYPE, builtin, count, code, locations)
     }
 
-    // Emits CallFunctionKw with its keyword names.
+    // Emits CallFunctionKw with its keyword names, in the order in which their values were pushed.
+    // Refuses 19, then, live, 7, 4, 18.
     pub fn emit_call_function_kw(
         self,
         positional: u8,
@@ -234,7 +267,9 @@ impl Builder {
         code: &mut [u8],
         locations: &mut [u32],
     ) -> Answer
-        ensures { λ r. ⌜ outcome r (now (code .exit)) (now (locations .exit)) ≡ emitOf self CallFunctionKw (Operand.CallKw positional (length (now (kwnames .entry)) % 256)) (now (kwnames .entry)) (now (code .entry)) (now (locations .entry)) ⌝ }
+        ensures { λ r. ⌜ outcome r (now (code .exit)) (now (locations .exit))
+            ≡ emitOf self CallFunctionKw (Operand.CallKw positional (length (now (kwnames .entry)) % 256))
+            (now (kwnames .entry)) (now (code .entry)) (now (locations .entry)) ⌝ }
     {
         let names = names::count_byte(kwnames.len());
         emission::emit_with_names(
@@ -247,7 +282,8 @@ impl Builder {
         )
     }
 
-    // Emits CallAttrKw with its keyword names.
+    // Emits CallAttrKw with its keyword names, in the order in which their values were pushed.
+    // Refuses 19, then, live, 7, 4, 18.
     pub fn emit_call_attr_kw(
         self,
         attribute: u16,
@@ -256,7 +292,9 @@ impl Builder {
         code: &mut [u8],
         locations: &mut [u32],
     ) -> Answer
-        ensures { λ r. ⌜ outcome r (now (code .exit)) (now (locations .exit)) ≡ emitOf self CallAttrKw (Operand.CallAttrKw attribute positional (length (now (kwnames .entry)) % 256)) (now (kwnames .entry)) (now (code .entry)) (now (locations .entry)) ⌝ }
+        ensures { λ r. ⌜ outcome r (now (code .exit)) (now (locations .exit))
+            ≡ emitOf self CallAttrKw (Operand.CallAttrKw attribute positional (length (now (kwnames .entry)) % 256))
+            (now (kwnames .entry)) (now (code .entry)) (now (locations .entry)) ⌝ }
     {
         let names = names::count_byte(kwnames.len());
         emission::emit_with_names(
@@ -273,7 +311,9 @@ impl Builder {
         )
     }
 
-    // Emits a jump whose target is not known yet, and answers the label to patch later.
+    // Emits a forward jump, whose target is not known yet, and answers the label to patch later. After Jump the code is
+    // dead; the other jumps go on. In dead code the label is Dead.
+    // Refuses 19, 1, then, live, 3, 5 of the taken depth, 4, 5, 18.
     pub fn emit_jump(
         self,
         opcode: u8,
@@ -281,7 +321,8 @@ impl Builder {
         locations: &mut [u32],
         marks: &mut [u32],
     ) -> Jumped
-        ensures { λ r. ⌜ jumpOutcome r (now (code .exit)) (now (locations .exit)) (now (marks .exit)) ≡ emitJumpOf self opcode (now (code .entry)) (now (locations .entry)) (now (marks .entry)) ⌝ }
+        ensures { λ r. ⌜ jumpOutcome r (now (code .exit)) (now (locations .exit)) (now (marks .exit))
+            ≡ emitJumpOf self opcode (now (code .entry)) (now (locations .entry)) (now (marks .entry)) ⌝ }
     {
         let core = self.core;
         let location = self.location;
@@ -314,9 +355,11 @@ impl Builder {
         }
     }
 
-    // Has a label's jump go to where the code now ends. Dead code is live again at the label's depth.
+    // Has a forward jump go to where the code now ends. Dead code is live again, at the label's depth.
+    // Refuses 19, then, of a label that is not Dead, 13, 14, 11, 6.
     pub fn patch_jump(self, label: JumpLabel, code: &mut [u8], marks: &mut [u32]) -> Answer
-        ensures { λ r. ⌜ patchOutcome r (now (code .exit)) (now (marks .exit)) ≡ patchJumpOf self label (now (code .entry)) (now (marks .entry)) ⌝ }
+        ensures { λ r. ⌜ patchOutcome r (now (code .exit)) (now (marks .exit))
+            ≡ patchJumpOf self label (now (code .entry)) (now (marks .entry)) ⌝ }
     {
         let core = self.core;
         if !marks::counts_sound(core, code.len(), marks.len()) {
@@ -337,7 +380,8 @@ impl Builder {
         }
     }
 
-    // Emits a jump to a known target. In dead code it does nothing, whatever the target.
+    // Emits a jump back to a known target.
+    // Refuses 19, 1, then, live, 3, 5 of the taken depth, 12 or 13, 11, 6, 4, 5, 18.
     pub fn emit_jump_to(
         self,
         opcode: u8,
@@ -346,7 +390,8 @@ impl Builder {
         locations: &mut [u32],
         marks: &[u32],
     ) -> Answer
-        ensures { λ r. ⌜ outcome r (now (code .exit)) (now (locations .exit)) ≡ emitJumpToOf self opcode target (now (code .entry)) (now (locations .entry)) (now (marks .entry)) ⌝ }
+        ensures { λ r. ⌜ outcome r (now (code .exit)) (now (locations .exit))
+            ≡ emitJumpToOf self opcode target (now (code .entry)) (now (locations .entry)) (now (marks .entry)) ⌝ }
     {
         let core = self.core;
         let location = self.location;
@@ -358,7 +403,8 @@ impl Builder {
         state::answer_by(self, answer)
     }
 
-    // The offset of the next instruction.
+    // Answers where the next instruction will stand.
+    // Never refuses.
     pub fn current_offset(self) -> usize
         ensures { λ r. ⌜ r ≡ self .core .code ⌝ }
     {
@@ -366,7 +412,8 @@ impl Builder {
         core.code
     }
 
-    // The source range here, for diagnostics.
+    // Answers the source range that was set, for diagnostics; 0, 0 where none was.
+    // Never refuses.
     pub fn current_position(self) -> CodeRange
         ensures { λ r. ⌜ r ≡ positionOf (self .location) ⌝ }
     {
@@ -377,7 +424,8 @@ impl Builder {
         }
     }
 
-    // Answers the place and the depth here as a target. In dead code there is none.
+    // Answers the place and the depth here as a target to jump back to. In dead code the target is Dead.
+    // Refuses 19, then, live, 18.
     pub fn current_jump_target(self, marks: &mut [u32]) -> Targeted
         ensures { λ r. ⌜ targetOutcome r (now (marks .exit)) ≡ targetOf self (now (marks .entry)) ⌝ }
     {
@@ -395,7 +443,8 @@ impl Builder {
         marks::mark_target(self, d, marks)
     }
 
-    // Names the slots 0, 1, .. in one pass, before any other is named.
+    // Names the slots 0, 1, .. in one pass, before any other name.
+    // Refuses 19, 16, 18.
     pub fn register_local_names(self, names: &[u32], table: &mut [u64]) -> Answer
         ensures { λ r. ⌜ kept r (now (table .exit)) ≡ registerNamesOf self (now (names .entry)) (now (table .entry)) ⌝ }
     {
@@ -417,7 +466,8 @@ impl Builder {
         Answer::Accepted(names::with_names(self, names.len()))
     }
 
-    // Names a slot, where it has no name yet.
+    // Names a slot, where it has no name yet: the first name stays.
+    // Refuses 19, 18.
     pub fn register_local_name(self, slot: u16, name: u32, table: &mut [u64]) -> Answer
         ensures { λ r. ⌜ kept r (now (table .exit)) ≡ registerNameOf self slot name (now (table .entry)) ⌝ }
     {
@@ -442,13 +492,16 @@ impl Builder {
     }
 
     // Emits RaiseUnboundLocal with the name that the error reports.
+    // Refuses 19, 8, then, live, 18.
     pub fn emit_raise_unbound_local(
         self,
         name: u32,
         code: &mut [u8],
         locations: &mut [u32],
     ) -> Answer
-        ensures { λ r. ⌜ outcome r (now (code .exit)) (now (locations .exit)) ≡ emitNamed self RaiseUnboundLocal name (Operand.U16 (name % 65536)) [] (now (code .entry)) (now (locations .entry)) ⌝ }
+        ensures { λ r. ⌜ outcome r (now (code .exit)) (now (locations .exit))
+            ≡ emitNamed self RaiseUnboundLocal name (Operand.U16 (name % 65536)) [] (now (code .entry))
+            (now (locations .entry)) ⌝ }
     {
         let word = names::name_word(name);
         emission::emit_with_operand(
@@ -461,9 +514,11 @@ impl Builder {
         )
     }
 
-    // Emits the shortest load of a slot: slots 0 to 3 have opcodes of their own.
+    // Emits the shortest load of a slot: 0 to 3 have opcodes of their own, then a byte, then a word.
+    // Refuses 19, then, live, 5, 18.
     pub fn emit_load_local(self, slot: u16, code: &mut [u8], locations: &mut [u32]) -> Answer
-        ensures { λ r. ⌜ outcome r (now (code .exit)) (now (locations .exit)) ≡ emitOf self (loadOp slot) (loadOperand slot) [] (now (code .entry)) (now (locations .entry)) ⌝ }
+        ensures { λ r. ⌜ outcome r (now (code .exit)) (now (locations .exit))
+            ≡ emitOf self (loadOp slot) (loadOperand slot) [] (now (code .entry)) (now (locations .entry)) ⌝ }
     {
         if slot <= 3 {
             return self.emit(opcodes::LOAD_LOCAL0 + slot as u8, code, locations);
@@ -474,7 +529,8 @@ impl Builder {
         self.emit_u16(opcodes::LOAD_LOCAL_W, slot, code, locations)
     }
 
-    // Emits LoadGlobalCallable with its slot and name.
+    // Emits LoadGlobalCallable with its slot and its name: global slots are no local slots, so the name goes along.
+    // Refuses 19, 8, then, live, 5, 18.
     pub fn emit_load_global_callable(
         self,
         slot: u16,
@@ -482,7 +538,9 @@ impl Builder {
         code: &mut [u8],
         locations: &mut [u32],
     ) -> Answer
-        ensures { λ r. ⌜ outcome r (now (code .exit)) (now (locations .exit)) ≡ emitNamed self LoadGlobalCallable name (Operand.U16U16 slot (name % 65536)) [] (now (code .entry)) (now (locations .entry)) ⌝ }
+        ensures { λ r. ⌜ outcome r (now (code .exit)) (now (locations .exit))
+            ≡ emitNamed self LoadGlobalCallable name (Operand.U16U16 slot (name % 65536)) [] (now (code .entry))
+            (now (locations .entry)) ⌝ }
     {
         let word = names::name_word(name);
         emission::emit_with_operand(
@@ -495,7 +553,8 @@ impl Builder {
         )
     }
 
-    // Emits LoadName, StoreName or DeleteName with its slot, name and flags.
+    // Emits LoadName, StoreName or DeleteName with its slot, its name and its flags.
+    // Refuses 19, 1, 8, then, live, 2, 4, 5, 18.
     pub fn emit_name_op(
         self,
         opcode: u8,
@@ -505,7 +564,9 @@ impl Builder {
         code: &mut [u8],
         locations: &mut [u32],
     ) -> Answer
-        ensures { λ r. ⌜ outcome r (now (code .exit)) (now (locations .exit)) ≡ emitNamed self opcode name (Operand.U16U16U8 slot (name % 65536) flags) [] (now (code .entry)) (now (locations .entry)) ⌝ }
+        ensures { λ r. ⌜ outcome r (now (code .exit)) (now (locations .exit))
+            ≡ emitNamed self opcode name (Operand.U16U16U8 slot (name % 65536) flags) [] (now (code .entry))
+            (now (locations .entry)) ⌝ }
     {
         let word = names::name_word(name);
         emission::emit_with_operand(
@@ -519,8 +580,10 @@ impl Builder {
     }
 
     // Emits the shorter store of a slot. Slots 0 to 3 have no opcodes of their own here.
+    // Refuses 19, then, live, 4, 18.
     pub fn emit_store_local(self, slot: u16, code: &mut [u8], locations: &mut [u32]) -> Answer
-        ensures { λ r. ⌜ outcome r (now (code .exit)) (now (locations .exit)) ≡ emitOf self (storeOp slot) (storeOperand slot) [] (now (code .entry)) (now (locations .entry)) ⌝ }
+        ensures { λ r. ⌜ outcome r (now (code .exit)) (now (locations .exit))
+            ≡ emitOf self (storeOp slot) (storeOperand slot) [] (now (code .entry)) (now (locations .entry)) ⌝ }
     {
         if slot <= 255 {
             return self.emit_u8(opcodes::STORE_LOCAL, slot as u8, code, locations);
@@ -529,6 +592,7 @@ impl Builder {
     }
 
     // Adds a constant, and answers its index.
+    // Refuses 19, 9, 18.
     pub fn add_const(self, value: u64, constants: &mut [u64]) -> Added
         ensures { λ r. ⌜ addedKept r (now (constants .exit)) ≡ addConstOf self value (now (constants .entry)) ⌝ }
     {
@@ -550,7 +614,8 @@ impl Builder {
         Added::Made(constants::with_constants(self, row + 1), row as u16)
     }
 
-    // Adds an exception handler. Innermost first, for nested blocks.
+    // Adds an exception handler. For nested blocks the innermost comes first.
+    // Refuses 19, 10, 18.
     pub fn add_exception_entry(
         self,
         start: usize,
@@ -561,7 +626,9 @@ impl Builder {
         kind: HandlerKind,
         exceptions: &mut [u32],
     ) -> Answer
-        ensures { λ r. ⌜ kept r (now (exceptions .exit)) ≡ addExceptionOf self start end handler «stack_depth» «exception_stack_count» kind (now (exceptions .entry)) ⌝ }
+        ensures { λ r. ⌜ kept r (now (exceptions .exit))
+            ≡ addExceptionOf self start end handler «stack_depth» «exception_stack_count» kind
+            (now (exceptions .entry)) ⌝ }
     {
         let core = self.core;
         let row = self.exceptions;
@@ -590,7 +657,8 @@ impl Builder {
         Answer::Accepted(exceptions::with_exceptions(self, row + 1))
     }
 
-    // The depth here, none in dead code.
+    // Answers the depth here; none in dead code.
+    // Never refuses.
     pub fn stack_depth(self) -> Depth
         ensures { λ r. ⌜ r ≡ self .core .depth ⌝ }
     {
@@ -599,7 +667,8 @@ impl Builder {
         depth
     }
 
-    // Whether the code is dead.
+    // Answers whether the code is dead.
+    // Never refuses.
     pub fn is_dead(self) -> bool
         ensures { λ r. ⌜ r ≡ deadOf (self .core .depth) ⌝ }
     {
@@ -611,7 +680,8 @@ impl Builder {
         }
     }
 
-    // Finishes the body: no label is open, and slots without a name get `fill`.
+    // Finishes the body: slots without a name get `fill`.
+    // Refuses 19, 17.
     pub fn build(self, fill: u32, names: &mut [u64], marks: &[u32]) -> Answer
         ensures { λ r. ⌜ kept r (now (names .exit)) ≡ buildOf self fill (now (names .entry)) (now (marks .entry)) ⌝ }
     {
@@ -633,7 +703,8 @@ impl Builder {
         Answer::Accepted(self)
     }
 
-    // Opens a region of live code at a depth that comes from outside: an exception handler's, or a body's first.
+    // Opens a region of live code at a depth that comes from outside: a body's first, or an exception handler's.
+    // Refuses 19, 15, 18.
     pub fn new_code_region(self, depth: u16, starts: &mut [u32]) -> Answer
         ensures { λ r. ⌜ kept r (now (starts .exit)) ≡ regionOf self depth (now (starts .entry)) ⌝ }
     {

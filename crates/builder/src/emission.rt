@@ -29,8 +29,10 @@ pub fn commit(
     code: &mut [u8],
     locations: &mut [u32],
 ) -> usize
-    requires { ⌜ Goes core location opcode operand (length (now kwnames)) (length (now code)) (length (now locations)) ⌝ }
-    ensures { λ r. ⌜ Committed core location opcode operand (now (kwnames .entry)) (now (code .entry)) (now (locations .entry)) r (now (code .exit)) (now (locations .exit)) ⌝ }
+    requires { ⌜ Goes core location opcode operand (length (now kwnames)) (length (now code))
+        (length (now locations)) ⌝ }
+    ensures { λ r. ⌜ Committed core location opcode operand (now (kwnames .entry)) (now (code .entry))
+        (now (locations .entry)) r (now (code .exit)) (now (locations .exit)) ⌝ }
 {
     let at = core.code;
     writer::write(&mut code[at..], opcode, operand, kwnames);
@@ -50,8 +52,8 @@ pub fn grown(core: Core, rows: usize, size: usize, after: Depth) -> Core
     }
 }
 
-// Emission on the core. The slice of names is made anew for `commit`: copied whole it keeps this function a call, with the
-// state in memory.
+// Emission on the core. The slice of names is made anew for `commit`: copied whole it keeps this function a call, with
+// the state in memory.
 fn emit_core(
     core: Core,
     location: Location,
@@ -62,7 +64,9 @@ fn emit_core(
     code: &mut [u8],
     locations: &mut [u32],
 ) -> CoreAnswer
-    ensures { λ r. ⌜ coreOutcome r (now (code .exit)) (now (locations .exit)) ≡ emitCore core location opcode name operand (now (kwnames .entry)) (now (code .entry)) (now (locations .entry)) ⌝ }
+    ensures { λ r. ⌜ coreOutcome r (now (code .exit)) (now (locations .exit))
+        ≡ emitCore core location opcode name operand (now (kwnames .entry)) (now (code .entry))
+        (now (locations .entry)) ⌝ }
 {
     let plan = plan::decide(
         core,
@@ -92,7 +96,8 @@ fn emit_core(
     }
 }
 
-// Emits an instruction with its keyword names, records its location and follows the depth. In dead code nothing changes.
+// Emits an instruction with its keyword names, records its location and follows the depth. In dead code nothing
+// changes.
 pub fn emit_with_names(
     b: Builder,
     opcode: u8,
@@ -101,7 +106,8 @@ pub fn emit_with_names(
     code: &mut [u8],
     locations: &mut [u32],
 ) -> Answer
-    ensures { λ r. ⌜ outcome r (now (code .exit)) (now (locations .exit)) ≡ emitOf b opcode operand (now (kwnames .entry)) (now (code .entry)) (now (locations .entry)) ⌝ }
+    ensures { λ r. ⌜ outcome r (now (code .exit)) (now (locations .exit))
+        ≡ emitOf b opcode operand (now (kwnames .entry)) (now (code .entry)) (now (locations .entry)) ⌝ }
 {
     let core = b.core;
     let location = b.location;
@@ -118,7 +124,8 @@ pub fn emit_with_operand(
     code: &mut [u8],
     locations: &mut [u32],
 ) -> Answer
-    ensures { λ r. ⌜ outcome r (now (code .exit)) (now (locations .exit)) ≡ emitNamed b opcode name operand [] (now (code .entry)) (now (locations .entry)) ⌝ }
+    ensures { λ r. ⌜ outcome r (now (code .exit)) (now (locations .exit))
+        ≡ emitNamed b opcode name operand [] (now (code .entry)) (now (locations .entry)) ⌝ }
 {
     let core = b.core;
     let location = b.location;

@@ -84,8 +84,10 @@ pub fn commit_jump(
     locations: &mut [u32],
     marks: &mut [u32],
 ) -> Core
-    requires { ⌜ JumpGoes core location opcode (length (now code)) (length (now locations)) (length (now marks)) size ⌝ }
-    ensures { λ r. ⌜ JumpCommitted core location opcode size after t (now (code .entry)) (now (locations .entry)) (now (marks .entry)) r (now (code .exit)) (now (locations .exit)) (now (marks .exit)) ⌝ }
+    requires { ⌜ JumpGoes core location opcode (length (now code)) (length (now locations)) (length (now marks))
+        size ⌝ }
+    ensures { λ r. ⌜ JumpCommitted core location opcode size after t (now (code .entry)) (now (locations .entry))
+        (now (marks .entry)) r (now (code .exit)) (now (locations .exit)) (now (marks .exit)) ⌝ }
 {
     let none: [u16; 0] = [];
     let rows = emission::commit(

@@ -1,41 +1,48 @@
-// The builder: CodeBuilder of pydantic/monty's builder.rs. The state goes in and comes out by value, the tables are lent, and
-// each call decides before it writes, so that a refusal changes neither.
+// The builder: CodeBuilder of pydantic/monty's builder.rs. The state goes in and comes out by value, the tables are lent,
+// and each call decides before it writes, so that a refusal changes neither.
 use code::CodeRange;
 use code::Focus;
 use op::Refusal;
 
-mod back;
+// The front door: the 33 public calls.
 mod calls;
-mod constants;
+
+// The order of the refusals, decided on numbers alone.
+mod plan;
+
+// What writes an instruction: any, a jump forward and its patch, a jump back.
+mod back;
 mod emission;
-mod exceptions;
 mod forward;
+mod patch;
+
+// What the other calls are about, and what all share.
+mod constants;
+mod exceptions;
 mod locations;
 mod marks;
 mod names;
-mod patch;
-mod plan;
 mod regions;
 mod state;
 mod tables;
 
 // How much of the lent code can be used.
-pub const CODE_LIMIT: usize = 1048576;
+const CODE_LIMIT: usize = 1048576;
 
 // How many cells a row has.
 pub const LOCATION_CELLS: usize = 6;
 
 pub const EXCEPTION_CELLS: usize = 6;
 
-pub const MARK_CELLS: usize = 4;
+const MARK_CELLS: usize = 4;
 
 pub const START_CELLS: usize = 2;
 
 // The greatest depth, name and constant index.
-pub const WORD_MAX: u32 = 65535;
+const WORD_MAX: u32 = 65535;
 
 // The bytes of a jump.
-pub const JUMP_SIZE: usize = 3;
+const JUMP_SIZE: usize = 3;
 
 // The operand stack's depth before the next instruction; none in dead code.
 pub enum Depth {

@@ -36,7 +36,8 @@ fn write_row(out: &mut [u32], offset: u32, range: CodeRange, focus: Focus)
 // A location's row at the used end, where a location is set; the rows then used.
 pub fn write_location(location: Location, rows: usize, at: usize, locations: &mut [u32]) -> usize
     requires { ⌜ (at ≤ codeLimit) × (rowFits location rows (length (now locations)) ≡ true) ⌝ }
-    ensures { λ r. ⌜ (r ≡ rowsAfter location rows) × (now (locations .exit) ≡ locationsAfter location rows at (now (locations .entry))) ⌝ }
+    ensures { λ r. ⌜ (r ≡ rowsAfter location rows)
+        × (now (locations .exit) ≡ locationsAfter location rows at (now (locations .entry))) ⌝ }
 {
     let Location::Set(range, focus) = location else {
         return rows;

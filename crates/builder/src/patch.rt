@@ -70,7 +70,8 @@ pub fn commit_patch(
     marks: &mut [u32],
 ) -> Core
     requires { ⌜ (offset + jumpSize ≤ length (now code)) × (i < length (now marks) / markCells) ⌝ }
-    ensures { λ r. ⌜ PatchCommitted core i offset w after (now (code .entry)) (now (marks .entry)) r (now (code .exit)) (now (marks .exit)) ⌝ }
+    ensures { λ r. ⌜ PatchCommitted core i offset w after (now (code .entry)) (now (marks .entry)) r (now (code .exit))
+        (now (marks .exit)) ⌝ }
 {
     let p = offset + 1;
     tables::put2(&mut code[p..], (w % 256) as u8, (w / 256) as u8);
