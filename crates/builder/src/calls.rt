@@ -40,6 +40,7 @@ use crate::forward;
 use crate::marks;
 use crate::names;
 use crate::patch;
+use crate::patch::PatchPlan;
 use crate::plan::Plan;
 use crate::regions;
 use crate::state;
@@ -371,9 +372,9 @@ impl Builder {
         let mark = marks::mark_in(core.marks, marks, i);
         let plan = patch::decide_mark(mark, core);
         match plan {
-            Plan::Idle => Answer::Accepted(self),
-            Plan::Refuse(refusal) => Answer::Refused(refusal),
-            Plan::Go(after, w, offset) => {
+            PatchPlan::Idle => Answer::Accepted(self),
+            PatchPlan::Refuse(refusal) => Answer::Refused(refusal),
+            PatchPlan::Go(after, w, offset) => {
                 let next = patch::commit_patch(core, i, offset, w, after, code, marks);
                 Answer::Accepted(state::with_core(self, next))
             }

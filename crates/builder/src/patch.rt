@@ -11,24 +11,31 @@ use crate::Depth;
 use crate::MARK_CELLS;
 use crate::marks;
 use crate::marks::Mark;
-use crate::plan::Plan;
 use crate::tables;
 use op::Refusal;
 
+// What a patch is to do: nothing, of a label that was made in dead code; refuse; or write.
+pub enum PatchPlan {
+    Idle,
+    Refuse(Refusal),
+    // the depth then, the displacement, and the offset of the jump
+    Go(Depth, u16, usize),
+}
+
 // An open label's mark: 11, then 6.
-fn decide_open(core: Core, offset: u32, depth: u32) -> Plan
+fn decide_open(core: Core, offset: u32, depth: u32) -> PatchPlan
     requires { ⌜ (core .code ≤ codeLimit) × (depth ≤ wordMax) ⌝ }
     ensures { λ r. ⌜ r ≡ openPlan (Mark.Open offset depth) core ⌝ }
 {
     let here = core.depth;
     if !marks::meets_depth(here, depth) {
-        return Plan::Refuse(Refusal::DepthsDiffer);
+        return PatchPlan::Refuse(Refusal::DepthsDiffer);
     }
     let from = offset as usize;
     if !marks::is_near(from, core.code) {
-        return Plan::Refuse(Refusal::JumpTooFar);
+        return PatchPlan::Refuse(Refusal::JumpTooFar);
     }
-    Plan::Go(
+    PatchPlan::Go(
         marks::revive(here, depth as u16),
         marks::bits_of(from, core.code),
         from,
@@ -36,25 +43,25 @@ fn decide_open(core: Core, offset: u32, depth: u32) -> Plan
 }
 
 // A mark that can be, by its kind.
-fn decide_kind(mark: Mark, core: Core) -> Plan
+fn decide_kind(mark: Mark, core: Core) -> PatchPlan
     requires { ⌜ (core .code ≤ codeLimit) × (markSound (core .code) mark ≡ true) ⌝ }
     ensures { λ r. ⌜ r ≡ openPlan mark core ⌝ }
 {
     match mark {
-        Mark::Absent => Plan::Refuse(Refusal::NoSuchMark),
-        Mark::Target(_, _) => Plan::Refuse(Refusal::NoSuchMark),
-        Mark::Patched(_, _) => Plan::Refuse(Refusal::AlreadyPatched),
+        Mark::Absent => PatchPlan::Refuse(Refusal::NoSuchMark),
+        Mark::Target(_, _) => PatchPlan::Refuse(Refusal::NoSuchMark),
+        Mark::Patched(_, _) => PatchPlan::Refuse(Refusal::AlreadyPatched),
         Mark::Open(offset, depth) => decide_open(core, offset, depth),
     }
 }
 
 // What a patch of this mark is to do.
-pub fn decide_mark(mark: Mark, core: Core) -> Plan
+pub fn decide_mark(mark: Mark, core: Core) -> PatchPlan
     requires { ⌜ core .code ≤ codeLimit ⌝ }
     ensures { λ r. ⌜ r ≡ markPlanOf mark core ⌝ }
 {
     if !marks::mark_sound(core.code, mark) {
-        return Plan::Refuse(Refusal::Unsound);
+        return PatchPlan::Refuse(Refusal::Unsound);
     }
     decide_kind(mark, core)
 }

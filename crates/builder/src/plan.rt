@@ -21,12 +21,12 @@ use op::effects;
 use op::opcodes;
 use op::shapes;
 
-// What a call is to do: nothing, in dead code; refuse; or write.
+// What an emitting call is to do: nothing, in dead code; refuse; or write.
 pub enum Plan {
     Idle,
     Refuse(Refusal),
-    // the depth then; a jump's taken depth or displacement, 0 elsewhere; and the size of the instruction, or the offset of
-    // the jump to patch. The number stands last, where a refusal has its own: else a plan is copied in halves
+    // the depth then; a jump's taken depth or displacement, 0 elsewhere; and the size of the instruction. The number
+    // stands last, where a refusal has its own: else a plan is copied in halves
     Go(Depth, u16, usize),
 }
 

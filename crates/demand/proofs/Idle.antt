@@ -26,6 +26,8 @@ use Rattle.builder.specs.declared.JumpTarget.the-variants as T
 use Rattle.builder.specs.declared.Location.{Location}
 use Rattle.builder.specs.declared.marks.Mark.{Mark}
 use Rattle.builder.specs.declared.marks.Mark.the-variants.{Absent, Open, Patched, Target}
+use Rattle.builder.specs.declared.patch.PatchPlan.{PatchPlan}
+use Rattle.builder.specs.declared.patch.PatchPlan.the-variants as Patching
 use Rattle.builder.specs.declared.plan.Plan.{Plan}
 use Rattle.builder.specs.declared.plan.Plan.the-variants.{Idle, Refuse, Go}
 use Rattle.builder.specs.Tables.{codeLimit, wordMax, markCells, rowsIn, rowFree}
@@ -35,7 +37,7 @@ use Rattle.builder.specs.Marks.{targetMark, markSound, meets, revived, bits, ne
 use Rattle.builder.specs.Forward.{unpatched, jumpPlanOf, takenPlan, jumpDepth}
 use Rattle.builder.specs.Back.{jumpBy}
 use Rattle.builder.specs.Back.{spotOf, aimOf, toLiveOf, toDepth, toPlanOf}
-use Rattle.builder.specs.Patch.{openPlan, markPlanOf}
+use Rattle.builder.specs.Patch.{patchGuard, openPlan, markPlanOf}
 
 never : {B : Type 0} {r : Refusal} → Refuse r ≡ Idle → B
 never e = let z : _≡_ {A = ℕ} 0 1 = cc in absurd (omega arith)
@@ -135,19 +137,30 @@ to-idle c l k t cl ll marks e =
     go (Live d) q e = absurd (arrives d (takenDepthOf d k) (targetMark t (c .marks) marks) e)
 
 -- a label that is Dead has nothing to patch, and a mark is never idle
-pub guard-never : (t : Bool) (r : Refusal) (s w : ℕ) (a : Depth) → guard t r Idle ≡ Go a w s → ⊥
-guard-never true r s w a e = let z : _≡_ {A = ℕ} 0 1 = cc in omega arith
-guard-never false r s w a e = let z : _≡_ {A = ℕ} 0 1 = cc in omega arith
+pub guard-never : (t : Bool) (r : Refusal) (o w : ℕ) (a : Depth) → patchGuard t r Patching.Idle ≡ Patching.Go a w o → ⊥
+guard-never true r o w a e = let z : _≡_ {A = ℕ} 0 1 = cc in omega arith
+guard-never false r o w a e = let z : _≡_ {A = ℕ} 0 1 = cc in omega arith
 
-pub mark-busy : (m : Mark) (c : Core) → markPlanOf m c ≡ Idle → ⊥
+patch-never : {B : Type 0} {r : Refusal} → Patching.Refuse r ≡ Patching.Idle → B
+patch-never e = let z : _≡_ {A = ℕ} 0 1 = cc in absurd (omega arith)
+
+patch-busy : (o w : ℕ) (a : Depth) → Patching.Go a w o ≡ Patching.Idle → ⊥
+patch-busy o w a e = let z : _≡_ {A = ℕ} 0 1 = cc in omega arith
+
+patch-guard-idle : (t : Bool) (r : Refusal) (p : PatchPlan) → patchGuard t r p ≡ Patching.Idle → p ≡ Patching.Idle
+patch-guard-idle true r p e = e
+patch-guard-idle false r p e = patch-never e
+
+pub mark-busy : (m : Mark) (c : Core) → markPlanOf m c ≡ Patching.Idle → ⊥
 unfolding markPlanOf
-mark-busy m c e = go m (guard-idle (markSound (c .code) m) Unsound (openPlan m c) e)
+mark-busy m c e = go m (patch-guard-idle (markSound (c .code) m) Unsound (openPlan m c) e)
   where
-    go : (m : Mark) → openPlan m c ≡ Idle → ⊥
-    go Absent e = never e
-    go (Target o d) e = never e
-    go (Patched o d) e = never e
+    go : (m : Mark) → openPlan m c ≡ Patching.Idle → ⊥
+    go Absent e = patch-never e
+    go (Target o d) e = patch-never e
+    go (Patched o d) e = patch-never e
     go (Open o d) e =
-        let p : Plan = Go (revived (c .depth) d) (bits o (c .code)) o in
-        go-busy o (bits o (c .code)) (revived (c .depth) d)
-        (guard-idle (near o (c .code)) JumpTooFar p (guard-idle (meets (c .depth) d) DepthsDiffer (guard (near o (c .code)) JumpTooFar p) e))
+        let p : PatchPlan = Patching.Go (revived (c .depth) d) (bits o (c .code)) o in
+        patch-busy o (bits o (c .code)) (revived (c .depth) d)
+        (patch-guard-idle (near o (c .code)) JumpTooFar p
+        (patch-guard-idle (meets (c .depth) d) DepthsDiffer (patchGuard (near o (c .code)) JumpTooFar p) e))

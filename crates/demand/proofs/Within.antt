@@ -31,6 +31,8 @@ use Rattle.builder.specs.declared.Depth.{Depth}
 use Rattle.builder.specs.declared.Depth.the-variants.{Dead, Live}
 use Rattle.builder.specs.declared.JumpLabel.{JumpLabel}
 use Rattle.builder.specs.declared.JumpTarget.{JumpTarget}
+use Rattle.builder.specs.declared.patch.PatchPlan.{PatchPlan}
+use Rattle.builder.specs.declared.patch.PatchPlan.the-variants as Patching
 use Rattle.builder.specs.declared.plan.Plan.{Plan}
 use Rattle.builder.specs.declared.plan.Plan.the-variants.{Idle, Refuse, Go}
 use Rattle.builder.proofs.Putting.{length-put}
@@ -66,10 +68,10 @@ module _ (b : Builder) where
   unfolding patchJumpOf
   patch-starts l code marks = go (patchPlanOf (b .core) l (length code) marks)
     where
-      go : (p : Plan) → after (commitPatch p b l code marks .answer) b .starts ≡ b .starts
-      go Idle = refl
-      go (Refuse r) = refl
-      go (Go a w o) = refl
+      go : (p : PatchPlan) → after (commitPatch p b l code marks .answer) b .starts ≡ b .starts
+      go Patching.Idle = refl
+      go (Patching.Refuse r) = refl
+      go (Patching.Go a w o) = refl
 
   -- a target keeps both counts
   abbrev TargetKeeps : TargetOutcome → Type 0
