@@ -20,8 +20,8 @@ use Rattle.builder.specs.declared.marks.Mark.the-variants.{Absent, Open,
 use Rattle.builder.specs.declared.patch.PatchPlan.{PatchPlan}
 use Rattle.builder.specs.declared.patch.PatchPlan.the-variants.{Go}
 use Rattle.builder.specs.Tables.{codeLimit, markCells, wordMax}
-use Rattle.builder.specs.Marks.{markIn, fits, markSound, markable, Markable, near, bits, meets, revived}
-use Rattle.builder.specs.Patch.{patchGuard, openPlan, markPlanOf, patchPlanOf, commitPatch, patchJumpOf}
+use Rattle.builder.specs.Marks.{Markable, bits, fits, markIn, markSound, markable, meets, near, revived}
+use Rattle.builder.specs.Patch.{commitPatch, markPlanOf, openPlan, patchGuard, patchJumpOf, patchPlanOf}
 use Rattle.builder.proofs.Plans.{both}
 use Rattle.builder.proofs.JumpPlans.{mark-used}
 

@@ -2,68 +2,47 @@
 -- Assumes nothing.
 use mathlib.Core.List.{List, []}
 use Prim.Native.Nat.{ℕ}
-use lib.Dec.{eqb}
 use lib.ListN.{length}
-use Rattle.op.specs.Opcodes.{known}
-use Rattle.op.specs.Depths.{takenDepthOf}
-use Rattle.op.specs.declared.After.{After}
-use Rattle.op.specs.declared.After.the-variants as A
 use Rattle.op.specs.declared.Operand.{Operand}
 use Rattle.op.specs.declared.Operand.the-variants.{Offset}
-use Rattle.op.specs.declared.Refusal.the-variants.{UnknownOpcode, JumpTooFar, DepthsDiffer, DeadTarget, NoSuchMark, Unsound}
 use Rattle.code.specs.Encode.{encode}
 use Rattle.code.specs.Bytes.{signed}
 use Rattle.builder.specs.declared.Builder.{Builder}
 use Rattle.builder.specs.declared.Core.{Core}
-use Rattle.builder.specs.declared.Depth.{Depth}
-use Rattle.builder.specs.declared.Depth.the-variants.{Dead, Live}
 use Rattle.builder.specs.declared.JumpTarget.{JumpTarget}
-use Rattle.builder.specs.declared.JumpTarget.the-variants as T
 use Rattle.builder.specs.declared.Location.{Location}
 use Rattle.builder.specs.declared.marks.Mark.{Mark}
-use Rattle.builder.specs.declared.marks.Mark.the-variants.{Absent, Open, Patched, Target}
 use Rattle.builder.specs.declared.plan.Plan.{Plan}
 use Rattle.builder.specs.declared.plan.Plan.the-variants.{Idle, Refuse, Go}
-use Rattle.builder.specs.Tables.{markCells, rowsIn}
-use Rattle.builder.specs.Plan.{guard, liveOf, soundOf}
+use Rattle.builder.specs.Marks.{targetMark}
+use Rattle.builder.specs.Plan.{Asked, Back, bitsTo, emittingOf}
 use Rattle.builder.specs.Emission.{CoreOutcome, Outcome, commitOf, outcomeBy}
-use Rattle.builder.specs.Marks.{bits, markSound, near, targetMark}
 
 -- the operand of a jump with these 16 bits of displacement
 abbrev pub jumpBy : ℕ → Operand
 jumpBy w = Offset (signed 65536 w)
 
--- 13, 11, 6, then as any emission; e is the depth that the jump arrives with
-abbrev pub spotOf : Mark → ℕ → Core → Location → ℕ → ℕ → ℕ → ℕ → Plan
-spotOf Absent e c l d k cl ll = Refuse NoSuchMark
-spotOf (Open o f) e c l d k cl ll = Refuse NoSuchMark
-spotOf (Patched o f) e c l d k cl ll = Refuse NoSuchMark
-spotOf (Target o f) e c l d k cl ll =
-    guard (eqb e f) DepthsDiffer
-    (guard (near (c .code) o) JumpTooFar
-    (liveOf c l d k (jumpBy (bits (c .code) o)) 0 (bits (c .code) o) cl ll))
+-- what `emit_jump_to` asks for, with the mark that its target names
+abbrev pub toAsked : (core : Core) (location : Location) (opcode : ℕ) (target : JumpTarget) (mark : Mark)
+    (code locations marks : ℕ) → Asked
+toAsked core location opcode target mark code locations marks = record {
+  core = core;
+  location = location;
+  opcode = opcode;
+  name = 0;
+  operand = jumpBy (bitsTo mark (core .code));
+  names = 0;
+  way = Back target mark;
+  code = code;
+  locations = locations;
+  marks = marks;
+}
 
--- 12 or 13
-abbrev pub aimOf : JumpTarget → Mark → ℕ → Core → Location → ℕ → ℕ → ℕ → ℕ → Plan
-aimOf T.Dead m e c l d k cl ll = Refuse DeadTarget
-aimOf (T.Row i) m e c l d k cl ll = spotOf m e c l d k cl ll
-
--- 3, taken-depth 5
-unfoldable pub toLiveOf : After → JumpTarget → Mark → Core → Location → ℕ → ℕ → ℕ → ℕ → Plan
-toLiveOf (A.Refused r) t m c l d k cl ll = Refuse r
-toLiveOf (A.Depth e) t m c l d k cl ll = aimOf t m e c l d k cl ll
-
-abbrev pub toDepth : Depth → JumpTarget → Mark → Core → Location → ℕ → ℕ → ℕ → Plan
-toDepth Dead t m c l k cl ll = Idle
-toDepth (Live d) t m c l k cl ll = toLiveOf (takenDepthOf d k) t m c l d k cl ll
-
-unfoldable pub toPlanOf : Core → Location → ℕ → JumpTarget → ℕ → ℕ → List ℕ → Plan
-toPlanOf c l k t cl ll marks =
-    guard (soundOf c cl ll) Unsound
-    (guard (rowsIn markCells (c .marks) (length marks)) Unsound
-    (guard (markSound (c .code) (targetMark t (c .marks) marks)) Unsound
-    (guard (known k) UnknownOpcode
-    (toDepth (c .depth) t (targetMark t (c .marks) marks) c l k cl ll))))
+unfoldable pub toPlanOf : (core : Core) (location : Location) (opcode : ℕ) (target : JumpTarget)
+    (code locations : ℕ) (marks : List ℕ) → Plan
+toPlanOf core location opcode target code locations marks =
+    emittingOf
+    (toAsked core location opcode target (targetMark target (core .marks) marks) code locations (length marks))
 
 -- the displacement that a plan found
 abbrev pub wordIn : Plan → ℕ

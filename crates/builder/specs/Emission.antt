@@ -1,7 +1,6 @@
 -- The model of emission: answer, state and tables after an emitting call: builder.rs, `emit_with_operand` and the calls over it.
 -- Assumes nothing.
 use mathlib.Core.List.{List}
-use mathlib.Core.Path.{_≡_}
 use Prim.Native.Nat.{ℕ, _+_}
 use lib.Dec.{leb}
 use lib.ListN.{length}
@@ -51,12 +50,6 @@ commitOf (Go after word size) c l bytes code locs =
 unfoldable pub emitCore : Core → Location → ℕ → ℕ → Operand → List ℕ → List ℕ → List ℕ → CoreOutcome
 emitCore c l k name o ns code locs =
     commitOf (planOf c l k name o (length ns) (length code) (length locs)) c l (encode k o ns) code locs
-
--- what writing one instruction leaves
-pub record Committed (c : Core) (l : Location) (k : ℕ) (o : Operand) (ns code locs : List ℕ) (used : ℕ) (code′ locs′ : List ℕ) : Type 0 where
-  pub count : used ≡ rowsAfter l (c .locations)
-  pub bytes : code′ ≡ put (c .code) (encode k o ns) code
-  pub rows : locs′ ≡ locationsAfter l (c .locations) (c .code) locs
 
 -- the answer, and code and locations as the call leaves them
 pub record Outcome : Type 0 where

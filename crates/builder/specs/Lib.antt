@@ -1,9 +1,9 @@
 pub mod Tables
 pub mod State
 pub mod Locations
+pub mod Marks
 pub mod Plan
 pub mod Emission
-pub mod Marks
 pub mod Forward
 pub mod Back
 pub mod Patch
@@ -11,3 +11,4 @@ pub mod Regions
 pub mod Constants
 pub mod Exceptions
 pub mod Names
+pub mod Inner

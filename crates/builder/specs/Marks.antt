@@ -50,6 +50,13 @@ markAt marks i = markOf (getD marks (i * markCells) 0) (getD marks (i * markCell
 unfoldable pub markIn : ℕ → List ℕ → ℕ → Mark
 markIn rows marks i = pick (ltb i rows) (markAt marks i) Absent
 
+-- one of two answers: for a target's mark, by its offset and depth, or for any other
+abbrev pub ofTarget : {A : Type 0} → Mark → (ℕ → ℕ → A) → A → A
+ofTarget Absent found none = none
+ofTarget (Open offset depth) found none = none
+ofTarget (Patched offset depth) found none = none
+ofTarget (Target offset depth) found none = found offset depth
+
 -- the mark that a target names
 abbrev pub targetMark : JumpTarget → ℕ → List ℕ → Mark
 targetMark T.Dead rows marks = Absent

@@ -2,7 +2,6 @@
 -- Assumes nothing.
 use mathlib.Core.Bool.{Bool, true, false}
 use mathlib.Core.List.{List}
-use mathlib.Core.Path.{_≡_}
 use Prim.Native.Nat.{ℕ, _+_, _*_}
 use lib.ListN.{length, set}
 use Rattle.op.specs.declared.Refusal.{Refusal}
@@ -12,7 +11,6 @@ use Rattle.builder.specs.declared.Answer.{Answer}
 use Rattle.builder.specs.declared.Answer.the-variants.{Accepted, Refused}
 use Rattle.builder.specs.declared.Builder.{Builder}
 use Rattle.builder.specs.declared.Core.{Core}
-use Rattle.builder.specs.declared.Depth.{Depth}
 use Rattle.builder.specs.declared.JumpLabel.{JumpLabel}
 use Rattle.builder.specs.declared.JumpLabel.the-variants as L
 use Rattle.builder.specs.declared.marks.Mark.{Mark}
@@ -53,12 +51,6 @@ patchPlanOf c label cl marks = patchGuard (markable c cl (length marks)) Unsound
 abbrev pub labelRow : JumpLabel → ℕ
 labelRow L.Dead = 0
 labelRow (L.Row i) = i
-
--- what writing a patch leaves
-pub record PatchCommitted (c : Core) (i offset w : ℕ) (after : Depth) (code marks : List ℕ) (next : Core) (code′ marks′ : List ℕ) : Type 0 where
-  pub state : next ≡ withDepth c after
-  pub bytes : code′ ≡ put (offset + 1) (wordBytes w) code
-  pub kind : marks′ ≡ set marks (i * markCells) patchedKind
 
 -- the answer, and code and marks as the call leaves them
 pub record PatchOutcome : Type 0 where

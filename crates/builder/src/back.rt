@@ -1,19 +1,19 @@
 // Deciding and writing a jump to a target.
-ghost use Prim.Native.Nat.{ℕ, _<_, _/_};
+ghost use Prim.Native.Nat.{ℕ};
+ghost use Rattle.builder.specs.Plan.{emittingOf};
 ghost use Rattle.builder.specs.Emission.{coreOutcome};
-ghost use Rattle.builder.specs.Back.{spotOf, toLiveOf, toPlanOf, jumpToCore};
-ghost use Rattle.builder.specs.Plan.{Sound};
+ghost use Rattle.builder.specs.Back.{jumpToCore, toAsked, toPlanOf};
+ghost use Rattle.builder.specs.Inner.{Lives, Sound};
 ghost use Rattle.op.specs.Depths.{takenDepthOf};
 ghost use mathlib.Core.Path.{_≡_};
 use crate::Core;
-use crate::Depth;
 use crate::JumpTarget;
 use crate::Location;
-use crate::MARK_CELLS;
 use crate::emission;
 use crate::marks;
 use crate::marks::Mark;
 use crate::plan;
+use crate::plan::Entered;
 use crate::plan::Plan;
 use crate::state::CoreAnswer;
 use code::signs;
@@ -21,7 +21,6 @@ use op::After;
 use op::Operand;
 use op::Refusal;
 use op::depths;
-use op::opcodes;
 
 // What is decided of a jump that arrives at a used mark with depth `e`.
 fn decide_spot(
@@ -35,7 +34,9 @@ fn decide_spot(
     ll: usize,
 ) -> Plan
     requires { ⌜ Sound core cl ll ⌝ }
-    ensures { λ r. ⌜ r ≡ spotOf mark e core location d opcode cl ll ⌝ }
+    ensures { λ r. ⌜ ((row ml : ℕ) → Lives (toAsked core location opcode (JumpTarget.Row row) mark cl ll ml) d
+        → takenDepthOf d opcode ≡ After.Depth e
+        → r ≡ emittingOf (toAsked core location opcode (JumpTarget.Row row) mark cl ll ml)) ⌝ }
 {
     match mark {
         Mark::Absent => Plan::Refuse(Refusal::NoSuchMark),
@@ -74,7 +75,8 @@ fn decide_to_live(
     ll: usize,
 ) -> Plan
     requires { ⌜ Sound core cl ll ⌝ }
-    ensures { λ r. ⌜ ((row : ℕ) → r ≡ toLiveOf (takenDepthOf d opcode) (JumpTarget.Row row) mark core location d opcode cl ll) ⌝ }
+    ensures { λ r. ⌜ ((row ml : ℕ) → Lives (toAsked core location opcode (JumpTarget.Row row) mark cl ll ml) d
+        → r ≡ emittingOf (toAsked core location opcode (JumpTarget.Row row) mark cl ll ml)) ⌝ }
 {
     let taken = depths::taken(d, opcode);
     match taken {
@@ -95,24 +97,17 @@ fn decide_to(
 ) -> Plan
     ensures { λ r. ⌜ r ≡ toPlanOf core location opcode (JumpTarget.Row row) cl ll (now (marks .entry)) ⌝ }
 {
-    if !plan::sound(core, cl, ll) {
-        return Plan::Refuse(Refusal::Unsound);
-    }
-    if marks.len() / MARK_CELLS < core.marks {
+    if !plan::sound_with_marks(core, cl, ll, marks.len()) {
         return Plan::Refuse(Refusal::Unsound);
     }
     let mark = marks::mark_in(core.marks, marks, row);
-    if !marks::mark_sound(core.code, mark) {
-        return Plan::Refuse(Refusal::Unsound);
-    }
-    if opcodes::LAST < opcode {
-        return Plan::Refuse(Refusal::UnknownOpcode);
-    }
     let depth = core.depth;
-    let Depth::Live(d) = depth else {
-        return Plan::Idle;
-    };
-    decide_to_live(mark, core, location, d, opcode, cl, ll)
+    let entered = plan::enter(marks::mark_sound(core.code, mark), opcode, 0, depth);
+    match entered {
+        Entered::Dead => Plan::Idle,
+        Entered::Refused(refusal) => Plan::Refuse(refusal),
+        Entered::Live(d) => decide_to_live(mark, core, location, d, opcode, cl, ll),
+    }
 }
 
 // A jump to a target that was made in dead code, on the core: it is refused, or does nothing.
@@ -128,23 +123,19 @@ pub fn jump_nowhere(
         ≡ jumpToCore core location opcode JumpTarget.Dead (now (code .entry)) (now (locations .entry))
         (now (marks .entry)) ⌝ }
 {
-    if !plan::sound(core, code.len(), locations.len()) {
-        return CoreAnswer::Refused(Refusal::Unsound);
-    }
-    if marks.len() / MARK_CELLS < core.marks {
-        return CoreAnswer::Refused(Refusal::Unsound);
-    }
-    if opcodes::LAST < opcode {
-        return CoreAnswer::Refused(Refusal::UnknownOpcode);
-    }
     let depth = core.depth;
-    let Depth::Live(d) = depth else {
-        return CoreAnswer::Accepted(core);
-    };
-    let taken = depths::taken(d, opcode);
-    match taken {
-        After::Refused(refusal) => CoreAnswer::Refused(refusal),
-        After::Depth(_) => CoreAnswer::Refused(Refusal::DeadTarget),
+    let sound = plan::sound_with_marks(core, code.len(), locations.len(), marks.len());
+    let entered = plan::enter(sound, opcode, 0, depth);
+    match entered {
+        Entered::Dead => CoreAnswer::Accepted(core),
+        Entered::Refused(refusal) => CoreAnswer::Refused(refusal),
+        Entered::Live(d) => {
+            let taken = depths::taken(d, opcode);
+            match taken {
+                After::Refused(refusal) => CoreAnswer::Refused(refusal),
+                After::Depth(_) => CoreAnswer::Refused(Refusal::DeadTarget),
+            }
+        }
     }
 }
 

@@ -1,8 +1,8 @@
 // The one way in which instructions are emitted: decide, then commit.
 ghost use Prim.Native.Nat.{_≤_, _+_};
-ghost use Rattle.builder.specs.Emission.{Committed, coreWith, coreOutcome, emitCore, outcome, emitNamed, emitOf};
-ghost use Rattle.builder.specs.Plan.{Goes};
 ghost use Rattle.builder.specs.Tables.{codeLimit};
+ghost use Rattle.builder.specs.Emission.{coreOutcome, coreWith, emitCore, emitNamed, emitOf, outcome};
+ghost use Rattle.builder.specs.Inner.{Committed, Goes};
 ghost use lib.ListN.{length};
 ghost use mathlib.Core.List.{[]};
 ghost use mathlib.Core.Path.{_≡_};

@@ -1,8 +1,6 @@
 // Deciding and writing a jump forward.
-ghost use Prim.Native.Nat.{_<_, _/_};
-ghost use Rattle.builder.specs.Forward.{takenPlan, jumpPlanOf, JumpGoes, JumpCommitted};
-ghost use Rattle.builder.specs.Plan.{Sound};
-ghost use Rattle.op.specs.Depths.{takenDepthOf};
+ghost use Rattle.builder.specs.Forward.{jumpAsked, jumpPlanOf};
+ghost use Rattle.builder.specs.Inner.{JumpCommitted, JumpGoes, Lives};
 ghost use lib.ListN.{length};
 ghost use mathlib.Core.Path.{_≡_};
 use crate::Core;
@@ -12,14 +10,13 @@ use crate::MARK_CELLS;
 use crate::emission;
 use crate::marks;
 use crate::plan;
+use crate::plan::Entered;
 use crate::plan::Plan;
 use crate::tables;
 use op::After;
 use op::Operand;
-use op::Refusal;
 use op::Table;
 use op::depths;
-use op::opcodes;
 
 // What is decided of a forward jump in live code, at depth `d`.
 fn decide_jump_live(
@@ -31,8 +28,8 @@ fn decide_jump_live(
     ll: usize,
     ml: usize,
 ) -> Plan
-    requires { ⌜ Sound core cl ll ⌝ }
-    ensures { λ r. ⌜ r ≡ takenPlan (takenDepthOf d opcode) core location d opcode cl ll ml ⌝ }
+    requires { ⌜ Lives (jumpAsked core location opcode cl ll ml) d ⌝ }
+    ensures { λ r. ⌜ r ≡ jumpPlanOf core location opcode cl ll ml ⌝ }
 {
     let taken = depths::taken(d, opcode);
     match taken {
@@ -56,20 +53,14 @@ pub fn decide_jump(
 ) -> Plan
     ensures { λ r. ⌜ r ≡ jumpPlanOf core location opcode cl ll ml ⌝ }
 {
-    if !plan::sound(core, cl, ll) {
-        return Plan::Refuse(Refusal::Unsound);
-    }
-    if ml / MARK_CELLS < core.marks {
-        return Plan::Refuse(Refusal::Unsound);
-    }
-    if opcodes::LAST < opcode {
-        return Plan::Refuse(Refusal::UnknownOpcode);
-    }
     let depth = core.depth;
-    let Depth::Live(d) = depth else {
-        return Plan::Idle;
-    };
-    decide_jump_live(core, location, d, opcode, cl, ll, ml)
+    let sound = plan::sound_with_marks(core, cl, ll, ml);
+    let entered = plan::enter(sound, opcode, 0, depth);
+    match entered {
+        Entered::Dead => Plan::Idle,
+        Entered::Refused(refusal) => Plan::Refuse(refusal),
+        Entered::Live(d) => decide_jump_live(core, location, d, opcode, cl, ll, ml),
+    }
 }
 
 // The jump with no displacement yet, its location's row, and its mark; the core then.

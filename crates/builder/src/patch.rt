@@ -2,10 +2,11 @@
 ghost use mathlib.Core.Path.{_≡_};
 ghost use Prim.Native.Nat.{_+_, _≤_, _<_, _/_};
 ghost use lib.ListN.{length};
-ghost use Rattle.builder.specs.Tables.{codeLimit, markCells, wordMax, jumpSize};
-ghost use mathlib.Core.Bool.{true};
+ghost use Rattle.builder.specs.Tables.{codeLimit, jumpSize, markCells, wordMax};
 ghost use Rattle.builder.specs.Marks.{markSound};
-ghost use Rattle.builder.specs.Patch.{openPlan, markPlanOf, PatchCommitted};
+ghost use Rattle.builder.specs.Patch.{markPlanOf, openPlan};
+ghost use Rattle.builder.specs.Inner.{PatchCommitted};
+ghost use mathlib.Core.Bool.{true};
 use crate::Core;
 use crate::Depth;
 use crate::MARK_CELLS;

@@ -1,14 +1,17 @@
 // Deciding an emission, on numbers alone, in the order of document 01's line "Emitting calls".
 ghost use Prim.Native.Nat.{_≤_};
+ghost use Rattle.builder.specs.Tables.{codeLimit, markCells, rowsIn};
 ghost use Rattle.builder.specs.Locations.{rowFits};
-ghost use Rattle.builder.specs.Plan.{soundOf, behind, alsoRow, roomOf, bytesOf, planOf};
-ghost use Rattle.builder.specs.Tables.{codeLimit};
+ghost use Rattle.builder.specs.Plan.{behind, enterOf, planOf, soundOf};
+ghost use Rattle.builder.specs.Inner.{alsoRow, bytesOf, roomOf};
+ghost use mathlib.Core.Bool.{_&&_};
 ghost use mathlib.Core.Path.{_≡_};
 use crate::CODE_LIMIT;
 use crate::Core;
 use crate::Depth;
 use crate::LOCATION_CELLS;
 use crate::Location;
+use crate::MARK_CELLS;
 use crate::WORD_MAX;
 use crate::locations;
 use code::decoder;
@@ -20,6 +23,13 @@ use op::depths;
 use op::effects;
 use op::opcodes;
 use op::shapes;
+
+// How an emitting call begins: in dead code, refused, or live at a depth.
+pub enum Entered {
+    Dead,
+    Refused(Refusal),
+    Live(u16),
+}
 
 // What an emitting call is to do: nothing, in dead code; refuse; or write.
 pub enum Plan {
@@ -41,6 +51,36 @@ pub fn sound(core: Core, cl: usize, ll: usize) -> bool
         return false;
     }
     core.locations <= ll / LOCATION_CELLS
+}
+
+// The same, and the count of marks within the lent marks.
+pub fn sound_with_marks(core: Core, cl: usize, ll: usize, ml: usize) -> bool
+    ensures { λ r. ⌜ r ≡ (rowsIn markCells (core .marks) ml && soundOf core cl ll) ⌝ }
+{
+    if ml / MARK_CELLS < core.marks {
+        return false;
+    }
+    sound(core, cl, ll)
+}
+
+// How every emitting call begins: 19, 1, 8, dead code. `sound` is what 19 asks of the call, `name` the name in the
+// operand, 0 without one.
+pub fn enter(sound: bool, opcode: u8, name: u32, depth: Depth) -> Entered
+    ensures { λ r. ⌜ r ≡ enterOf sound opcode name depth ⌝ }
+{
+    if !sound {
+        return Entered::Refused(Refusal::Unsound);
+    }
+    if opcodes::LAST < opcode {
+        return Entered::Refused(Refusal::UnknownOpcode);
+    }
+    if WORD_MAX < name {
+        return Entered::Refused(Refusal::NameTooLarge);
+    }
+    match depth {
+        Depth::Dead => Entered::Dead,
+        Depth::Live(d) => Entered::Live(d),
+    }
 }
 
 // The depth behind an opcode that falls through to `e`.
@@ -137,19 +177,14 @@ pub fn decide(
 ) -> Plan
     ensures { λ r. ⌜ r ≡ planOf core location opcode name operand n cl ll ⌝ }
 {
-    if !sound(core, cl, ll) {
-        return Plan::Refuse(Refusal::Unsound);
-    }
-    if opcodes::LAST < opcode {
-        return Plan::Refuse(Refusal::UnknownOpcode);
-    }
-    if WORD_MAX < name {
-        return Plan::Refuse(Refusal::NameTooLarge);
-    }
     let depth = core.depth;
-    let Depth::Live(d) = depth else {
-        return Plan::Idle;
-    };
-    let plan = decide_bytes(core, d, opcode, operand, n, 0, cl);
-    also_location(plan, location, core.locations, ll)
+    let entered = enter(sound(core, cl, ll), opcode, name, depth);
+    match entered {
+        Entered::Dead => Plan::Idle,
+        Entered::Refused(refusal) => Plan::Refuse(refusal),
+        Entered::Live(d) => {
+            let plan = decide_bytes(core, d, opcode, operand, n, 0, cl);
+            also_location(plan, location, core.locations, ll)
+        }
+    }
 }

@@ -1,6 +1,6 @@
--- `builder::back::decide_to_live` meets its contract: the taken depth is op's, and the arms are the definition's.
+-- `builder::back::decide_to_live` meets its contract: the taken depth is op's, and the arms are the line's.
 -- Assumes nothing.
-use Rattle.builder.specs.Back.{toLiveOf}
+use Rattle.builder.specs.Plan.{emittingOf}
 use mathlib.Core.Path.{_∙_, sym}
 use borrow.Author.Needs.{needs}
 use Rattle.builder.proofs.back.decide_to_live.Statement.{statement}
@@ -19,17 +19,16 @@ decide-spot-requires : tie.Need-decide-spot-requires
 decide-spot-requires c κs = search needs
 
 returns : tie.Need-returns
-unfolding toLiveOf
-returns c row =
+unfolding emittingOf
+returns c row ml lives =
     let after-taken = c .before .before .before in
-    simp (sym (after-taken .taken .ensures) ∙ c .before .taken2 .given .1)
+    simp (lives, sym (after-taken .taken .ensures) ∙ c .before .taken2 .given .1)
 
 returns-2 : tie.Need-returns-2
-unfolding toLiveOf
-returns-2 c row =
+returns-2 c row ml lives =
     let after-taken3 = c .before .before in
     let after-taken = after-taken3 .before .before in
-    simp (sym (after-taken .taken .ensures) ∙ after-taken3 .taken3 .given .1) (c .decide-spot .ensures)
+    c .decide-spot .ensures row ml lives (sym (after-taken .taken .ensures) ∙ after-taken3 .taken3 .given .1)
 
 pub decide-to-live-spec : {M : Type 1} → statement M
 decide-to-live-spec =

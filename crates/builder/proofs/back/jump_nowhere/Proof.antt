@@ -1,57 +1,33 @@
--- `builder::back::jump_nowhere` meets its contract: its tests are the definition's, and no mark is read.
+-- `builder::back::jump_nowhere` meets its contract: how it begins is the line's, and no mark is read.
 -- Assumes nothing.
-use Rattle.builder.specs.Back.{jumpToCore, toLiveOf, toPlanOf}
-use Rattle.op.specs.Opcodes.{known}
-use borrow.Author.Tests.{le-leb, lt-leb, not-false, not-true}
-use mathlib.Core.Path.{_∙_, sym}
+use Rattle.builder.proofs.JumpPlans.{jumped-to}
+use Rattle.builder.proofs.Plans.{enters-as, line-enters}
+use Rattle.builder.specs.declared.JumpTarget.the-variants as T
+use Rattle.builder.specs.declared.marks.Mark.the-variants.{Absent}
+use Rattle.builder.specs.declared.plan.Entered.the-variants as E
+use Rattle.builder.specs.declared.plan.Plan.the-variants.{Idle, Refuse}
+use Rattle.op.specs.declared.Refusal.the-variants.{DeadTarget}
+use mathlib.Core.Path.{_∙_, refl, sym}
 use borrow.Author.Needs.{needs}
 use Rattle.builder.proofs.back.jump_nowhere.Statement.{statement}
 use Rattle.builder.proofs.back.jump_nowhere.Tie as tie
+use Rattle.builder.specs.Plan.{entered}
+use Rattle.builder.specs.Back.{toAsked, toPlanOf}
 
-sound-requires : tie.Need-sound-requires
-sound-requires c κs = search needs
+sound-with-marks-requires : tie.Need-sound-with-marks-requires
+sound-with-marks-requires c κs = search needs
 
-returns : tie.Need-returns
-unfolding jumpToCore toPlanOf
-returns c = simp (sym (c .before .sound .ensures) ∙ not-true _ (c .if1 .taken))
-
-returns-2 : tie.Need-returns-2
-unfolding jumpToCore toPlanOf
-returns-2 c =
-    let else1 = c .before .before in
-    let after-sound = else1 .before in
-    simp (sym (after-sound .sound .ensures) ∙ not-false _ (else1 .if1 .left), lt-leb _ _ (c .if2 .taken))
-
-returns-3 : tie.Need-returns-3
-unfolding jumpToCore toPlanOf known
-returns-3 c =
-    let else1 = c .before .before .before in
-    let after-sound = else1 .before in
-    simp (
-      sym (after-sound .sound .ensures) ∙ not-false _ (else1 .if1 .left),
-      le-leb _ _ (c .before .if2 .left),
-      lt-leb _ _ (c .if3 .taken),
-    )
-
-enum-known-depth : tie.Need-enum-known-depth
-enum-known-depth c = search needs
+enter-requires : tie.Need-enter-requires
+enter-requires c κs = search needs
 
 enum-told : tie.Need-enum-told
 enum-told c = search needs
 
-returns-4 : tie.Need-returns-4
-unfolding jumpToCore toPlanOf known
-returns-4 c =
-    let else3 = c .before .before in
-    let else2 = else3 .before in
-    let else1 = else2 .before .before in
-    let after-sound = else1 .before in
-    simp (
-      sym (after-sound .sound .ensures) ∙ not-false _ (else1 .if1 .left),
-      le-leb _ _ (else2 .if2 .left),
-      le-leb _ _ (else3 .if3 .left),
-      c .enum-told .given .1,
-    )
+enum-known-entered : tie.Need-enum-known-entered
+enum-known-entered c = search needs
+
+enum-known-entered-2 : tie.Need-enum-known-entered-2
+enum-known-entered-2 c = search needs
 
 taken-requires : tie.Need-taken-requires
 taken-requires c κs = search needs
@@ -62,53 +38,74 @@ enum-known-taken c = search needs
 enum-told-2 : tie.Need-enum-told-2
 enum-told-2 c = search needs
 
-returns-5 : tie.Need-returns-5
-unfolding jumpToCore toPlanOf known toLiveOf
-returns-5 c =
-    let after-taken = c .before .before .before in
-    let after-depth = after-taken .before .before in
-    let else3 = after-depth .before .before in
-    let else2 = else3 .before in
-    let else1 = else2 .before .before in
-    let after-sound = else1 .before in
-    simp (
-      sym (after-sound .sound .ensures) ∙ not-false _ (else1 .if1 .left),
-      le-leb _ _ (else2 .if2 .left),
-      le-leb _ _ (else3 .if3 .left),
-      after-depth .depth .given .1,
-      sym (after-taken .taken .ensures) ∙ c .before .taken2 .given .1,
-    )
+returns : tie.Need-returns
+unfolding toPlanOf
+returns c =
+    let after-enter = c .before .before in
+    let after-sound-with-marks = after-enter .before in
+    let start = after-sound-with-marks .before .before .before .before in
+    let a = start .args in
+    jumped-to (a .core) (a .location) (a .opcode) T.Dead (a .code .now) (a .locations .now) (a .marks .now) Idle
+    (line-enters (toAsked (a .core) (a .location) (a .opcode) T.Dead Absent _ _ _) E.Dead
+    (enters-as _ _ _ (after-enter .enter .ensures) (after-sound-with-marks .sound-with-marks .ensures)
+    (c .enum-told .given .1)))
 
-returns-6 : tie.Need-returns-6
-unfolding jumpToCore toPlanOf known toLiveOf
-returns-6 c =
+returns-2 : tie.Need-returns-2
+unfolding toPlanOf
+returns-2 c =
+    let after-enter = c .before .before .before in
+    let after-sound-with-marks = after-enter .before in
+    let start = after-sound-with-marks .before .before .before .before in
+    let a = start .args in
+    jumped-to (a .core) (a .location) (a .opcode) T.Dead (a .code .now) (a .locations .now) (a .marks .now) (Refuse _)
+    (line-enters (toAsked (a .core) (a .location) (a .opcode) T.Dead Absent _ _ _) (E.Refused _)
+    (enters-as _ _ _ (after-enter .enter .ensures) (after-sound-with-marks .sound-with-marks .ensures)
+    (c .before .entered .given .1)))
+
+returns-3 : tie.Need-returns-3
+unfolding toPlanOf
+returns-3 c =
+    let after-taken = c .before .before .before in
+    let after-entered2 = after-taken .before .before in
+    let after-enter = after-entered2 .before .before in
+    let after-sound-with-marks = after-enter .before in
+    let start = after-sound-with-marks .before .before .before .before in
+    let a = start .args in
+    jumped-to (a .core) (a .location) (a .opcode) T.Dead (a .code .now) (a .locations .now) (a .marks .now) (Refuse _)
+    (line-enters (toAsked (a .core) (a .location) (a .opcode) T.Dead Absent _ _ _) (E.Live _)
+    (enters-as _ _ _ (after-enter .enter .ensures) (after-sound-with-marks .sound-with-marks .ensures)
+    (after-entered2 .entered2 .given .1))
+    ∙ rw (sym (after-taken .taken .ensures) ∙ c .before .taken2 .given .1) refl)
+
+returns-4 : tie.Need-returns-4
+unfolding toPlanOf
+returns-4 c =
     let after-taken = c .before .before in
-    let after-depth = after-taken .before .before in
-    let else3 = after-depth .before .before in
-    let else2 = else3 .before in
-    let else1 = else2 .before .before in
-    let after-sound = else1 .before in
-    simp (
-      sym (after-sound .sound .ensures) ∙ not-false _ (else1 .if1 .left),
-      le-leb _ _ (else2 .if2 .left),
-      le-leb _ _ (else3 .if3 .left),
-      after-depth .depth .given .1,
-      sym (after-taken .taken .ensures) ∙ c .enum-told2 .given .1,
-    )
+    let after-entered2 = after-taken .before .before in
+    let after-enter = after-entered2 .before .before in
+    let after-sound-with-marks = after-enter .before in
+    let start = after-sound-with-marks .before .before .before .before in
+    let a = start .args in
+    jumped-to (a .core) (a .location) (a .opcode) T.Dead (a .code .now) (a .locations .now) (a .marks .now)
+    (Refuse DeadTarget)
+    (line-enters (toAsked (a .core) (a .location) (a .opcode) T.Dead Absent _ _ _) (E.Live _)
+    (enters-as _ _ _ (after-enter .enter .ensures) (after-sound-with-marks .sound-with-marks .ensures)
+    (after-entered2 .entered2 .given .1))
+    ∙ rw (sym (after-taken .taken .ensures) ∙ c .enum-told2 .given .1) refl)
 
 pub jump-nowhere-spec : {M : Type 1} → statement M
 jump-nowhere-spec =
     tie.close
     (tie.spec
-    sound-requires
-    returns
-    returns-2
-    returns-3
-    enum-known-depth
+    sound-with-marks-requires
+    enter-requires
     enum-told
-    returns-4
+    enum-known-entered
+    enum-known-entered-2
     taken-requires
     enum-known-taken
     enum-told-2
-    returns-5
-    returns-6)
+    returns
+    returns-2
+    returns-3
+    returns-4)

@@ -1,91 +1,71 @@
--- `builder::forward::decide_jump` meets its contract: its tests are the definition's, in document 01's order.
+-- `builder::forward::decide_jump` meets its contract: how it begins is the line's.
 -- Assumes nothing.
-use Rattle.builder.proofs.Plans.{sound-true}
-use Rattle.builder.specs.Forward.{jumpPlanOf}
-use Rattle.op.specs.Opcodes.{known}
+use Rattle.builder.proofs.Plans.{enters-as, line-enters}
+use Rattle.builder.specs.declared.plan.Entered.the-variants as E
 use borrow.Author.Needs.{needs}
-use borrow.Author.Tests.{le-leb, lt-leb, not-false, not-true}
-use mathlib.Core.Path.{_∙_, sym}
+use mathlib.Core.Path.{sym}
 use Rattle.builder.proofs.forward.decide_jump.Statement.{statement}
 use Rattle.builder.proofs.forward.decide_jump.Tie as tie
+use Rattle.builder.specs.Plan.{entered}
+use Rattle.builder.specs.Forward.{jumpAsked, jumpPlanOf}
 
-sound-requires : tie.Need-sound-requires
-sound-requires c κs = search needs
+sound-with-marks-requires : tie.Need-sound-with-marks-requires
+sound-with-marks-requires c κs = search needs
 
-returns : tie.Need-returns
-unfolding jumpPlanOf
-returns c = simp (sym (c .before .sound .ensures) ∙ not-true _ (c .if1 .taken))
-
-returns-2 : tie.Need-returns-2
-unfolding jumpPlanOf
-returns-2 c =
-    let else1 = c .before .before in
-    let after-sound = else1 .before in
-    simp (sym (after-sound .sound .ensures) ∙ not-false _ (else1 .if1 .left), lt-leb _ _ (c .if2 .taken))
-
-returns-3 : tie.Need-returns-3
-unfolding jumpPlanOf known
-returns-3 c =
-    let else1 = c .before .before .before in
-    let after-sound = else1 .before in
-    simp (
-      sym (after-sound .sound .ensures) ∙ not-false _ (else1 .if1 .left),
-      le-leb _ _ (c .before .if2 .left),
-      lt-leb _ _ (c .if3 .taken),
-    )
-
-enum-known-depth : tie.Need-enum-known-depth
-enum-known-depth c = search needs
+enter-requires : tie.Need-enter-requires
+enter-requires c κs = search needs
 
 enum-told : tie.Need-enum-told
 enum-told c = search needs
 
-returns-4 : tie.Need-returns-4
-unfolding jumpPlanOf known
-returns-4 c =
-    let else3 = c .before .before in
-    let else2 = else3 .before in
-    let else1 = else2 .before .before in
-    let after-sound = else1 .before in
-    simp (
-      sym (after-sound .sound .ensures) ∙ not-false _ (else1 .if1 .left),
-      le-leb _ _ (else2 .if2 .left),
-      le-leb _ _ (else3 .if3 .left),
-      c .enum-told .given .1,
-    )
+enum-known-entered : tie.Need-enum-known-entered
+enum-known-entered c = search needs
+
+enum-known-entered-2 : tie.Need-enum-known-entered-2
+enum-known-entered-2 c = search needs
 
 decide-jump-live-requires : tie.Need-decide-jump-live-requires
 decide-jump-live-requires c κs =
-    let else1 = c .before .before .before .before .before .before in
-    let after-sound = else1 .before in
-    sound-true _ _ _ (sym (after-sound .sound .ensures) ∙ not-false _ (else1 .if1 .left))
+    let after-enter = c .before .before .before in
+    let after-sound-with-marks = after-enter .before in
+    enters-as _ _ _ (after-enter .enter .ensures) (after-sound-with-marks .sound-with-marks .ensures)
+    (c .before .entered2 .given .1)
 
-returns-5 : tie.Need-returns-5
-unfolding jumpPlanOf known
-returns-5 c =
-    let after-depth = c .before .before in
-    let else3 = after-depth .before .before in
-    let else2 = else3 .before in
-    let else1 = else2 .before .before in
-    let after-sound = else1 .before in
-    simp (
-      sym (after-sound .sound .ensures) ∙ not-false _ (else1 .if1 .left),
-      le-leb _ _ (else2 .if2 .left),
-      le-leb _ _ (else3 .if3 .left),
-      after-depth .depth .given .1,
-    )
-    (c .decide-jump-live .ensures)
+returns : tie.Need-returns
+unfolding jumpPlanOf
+returns c =
+    let after-enter = c .before .before in
+    let after-sound-with-marks = after-enter .before in
+    let start = after-sound-with-marks .before in
+    let a = start .args in
+    sym (line-enters (jumpAsked (a .core) (a .location) (a .opcode) (a .cl) (a .ll) (a .ml)) E.Dead
+    (enters-as _ _ _ (after-enter .enter .ensures) (after-sound-with-marks .sound-with-marks .ensures)
+    (c .enum-told .given .1)))
+
+returns-2 : tie.Need-returns-2
+unfolding jumpPlanOf
+returns-2 c =
+    let after-enter = c .before .before .before in
+    let after-sound-with-marks = after-enter .before in
+    let start = after-sound-with-marks .before in
+    let a = start .args in
+    sym (line-enters (jumpAsked (a .core) (a .location) (a .opcode) (a .cl) (a .ll) (a .ml)) (E.Refused _)
+    (enters-as _ _ _ (after-enter .enter .ensures) (after-sound-with-marks .sound-with-marks .ensures)
+    (c .before .entered .given .1)))
+
+returns-3 : tie.Need-returns-3
+returns-3 c = c .decide-jump-live .ensures
 
 pub decide-jump-spec : {M : Type 1} → statement M
 decide-jump-spec =
     tie.close
     (tie.spec
-    sound-requires
+    sound-with-marks-requires
+    enter-requires
+    enum-told
+    enum-known-entered
+    enum-known-entered-2
+    decide-jump-live-requires
     returns
     returns-2
-    returns-3
-    enum-known-depth
-    enum-told
-    returns-4
-    decide-jump-live-requires
-    returns-5)
+    returns-3)

@@ -1,98 +1,90 @@
--- `builder::plan::decide` meets its contract: its tests are the definition's, in document 01's order.
+-- `builder::plan::decide` meets its contract: how it begins is the line's, and so is what is decided in parts.
 -- Assumes nothing.
-use Rattle.builder.proofs.Plans.{sound-true, live-from}
-use Rattle.builder.specs.Plan.{planOf}
-use Rattle.op.specs.Opcodes.{known}
+use Rattle.builder.proofs.Plans.{enter-live, enters-as, line-enters, plain-live, sound-true}
+use Rattle.builder.specs.declared.plan.Entered.the-variants as E
+use Rattle.builder.specs.declared.plan.Plan.{Plan}
+use Rattle.op.specs.declared.Table.the-variants.{Locations}
+use mathlib.Core.Path.{_∙_, ap, sym}
 use borrow.Author.Needs.{needs}
-use borrow.Author.Tests.{le-leb, lt-leb, not-false, not-true}
-use mathlib.Core.Path.{_∙_, sym}
 use Rattle.builder.proofs.plan.decide.Statement.{statement}
 use Rattle.builder.proofs.plan.decide.Tie as tie
+use Rattle.builder.specs.Locations.{rowFits}
+use Rattle.builder.specs.Plan.{entered, plainAsked, planOf}
+use Rattle.builder.specs.Inner.{alsoRow}
 
 sound-requires : tie.Need-sound-requires
 sound-requires c κs = search needs
 
-returns : tie.Need-returns
-unfolding planOf
-returns c = simp (sym (c .before .sound .ensures) ∙ not-true _ (c .if1 .taken))
-
-returns-2 : tie.Need-returns-2
-unfolding planOf known
-returns-2 c =
-    let after-sound = c .before .before in
-    simp (sym (after-sound .sound .ensures) ∙ not-false _ (c .before .if1 .left), lt-leb _ _ (c .if2 .taken))
-
-returns-3 : tie.Need-returns-3
-unfolding planOf known
-returns-3 c =
-    let else1 = c .before .before in
-    let after-sound = else1 .before in
-    simp (
-      sym (after-sound .sound .ensures) ∙ not-false _ (else1 .if1 .left),
-      le-leb _ _ (c .before .if2 .left),
-      lt-leb _ _ (c .if3 .taken),
-    )
-
-enum-known-depth : tie.Need-enum-known-depth
-enum-known-depth c = search needs
+enter-requires : tie.Need-enter-requires
+enter-requires c κs = search needs
 
 enum-told : tie.Need-enum-told
 enum-told c = search needs
 
-returns-4 : tie.Need-returns-4
-unfolding planOf known
-returns-4 c =
-    let else3 = c .before .before in
-    let else2 = else3 .before in
-    let else1 = else2 .before in
-    let after-sound = else1 .before in
-    simp (
-      sym (after-sound .sound .ensures) ∙ not-false _ (else1 .if1 .left),
-      le-leb _ _ (else2 .if2 .left),
-      le-leb _ _ (else3 .if3 .left),
-      c .enum-told .given .1,
-    )
+enum-known-entered : tie.Need-enum-known-entered
+enum-known-entered c = search needs
+
+enum-known-entered-2 : tie.Need-enum-known-entered-2
+enum-known-entered-2 c = search needs
 
 decide-bytes-requires : tie.Need-decide-bytes-requires
 decide-bytes-requires c κs =
-    let else1 = c .before .before .before .before .before in
-    let after-sound = else1 .before in
-    let s = sound-true _ _ _ (sym (after-sound .sound .ensures) ∙ not-false _ (else1 .if1 .left)) in
+    let after-enter = c .before .before .before in
+    let after-sound = after-enter .before in
+    let s = sound-true _ _ _ (enter-live _ _ _ _
+    (enters-as _ _ _ (after-enter .enter .ensures) (after-sound .sound .ensures)
+    (c .before .entered2 .given .1)) .sound) in
     (s .code, s .limit)
 
 also-location-requires : tie.Need-also-location-requires
 also-location-requires c κs = search needs
 
-returns-5 : tie.Need-returns-5
-unfolding planOf known
-returns-5 c =
-    let after-depth = c .before .before .before in
-    let else3 = after-depth .before .before in
-    let else2 = else3 .before in
-    let else1 = else2 .before in
-    let after-sound = else1 .before in
+returns : tie.Need-returns
+unfolding planOf
+returns c =
+    let after-enter = c .before .before in
+    let after-sound = after-enter .before in
     let start = after-sound .before in
     let a = start .args in
-    simp (
-      sym (after-sound .sound .ensures) ∙ not-false _ (else1 .if1 .left),
-      le-leb _ _ (else2 .if2 .left),
-      le-leb _ _ (else3 .if3 .left),
-      after-depth .depth .given .1,
-    )
-    (live-from (a .core) (a .location) (a .cl) (a .ll) _ (a .opcode) (a .operand) (a .n) 0 _ _
-    (c .before .decide-bytes .ensures) (c .also-location .ensures))
+    sym (line-enters (plainAsked (a .core) (a .location) (a .opcode) (a .name) (a .operand) (a .n) (a .cl) (a .ll))
+    E.Dead
+    (enters-as _ _ _ (after-enter .enter .ensures) (after-sound .sound .ensures) (c .enum-told .given .1)))
+
+returns-2 : tie.Need-returns-2
+unfolding planOf
+returns-2 c =
+    let after-enter = c .before .before .before in
+    let after-sound = after-enter .before in
+    let start = after-sound .before in
+    let a = start .args in
+    sym (line-enters (plainAsked (a .core) (a .location) (a .opcode) (a .name) (a .operand) (a .n) (a .cl) (a .ll))
+    (E.Refused _)
+    (enters-as _ _ _ (after-enter .enter .ensures) (after-sound .sound .ensures) (c .before .entered .given .1)))
+
+returns-3 : tie.Need-returns-3
+returns-3 c =
+    let after-entered2 = c .before .before .before in
+    let after-enter = after-entered2 .before .before in
+    let after-sound = after-enter .before in
+    let start = after-sound .before in
+    let a = start .args in
+    c .also-location .ensures
+    ∙ ap (λ (p : Plan). alsoRow p (rowFits (a .location) (a .core .locations) (a .ll)) Locations)
+    (c .before .decide-bytes .ensures)
+    ∙ sym (plain-live (a .core) (a .location) (a .opcode) (a .name) (a .operand) (a .n) (a .cl) (a .ll) _
+    (enters-as _ _ _ (after-enter .enter .ensures) (after-sound .sound .ensures) (after-entered2 .entered2 .given .1)))
 
 pub decide-spec : {M : Type 1} → statement M
 decide-spec =
     tie.close
     (tie.spec
     sound-requires
-    returns
-    returns-2
-    returns-3
-    enum-known-depth
+    enter-requires
     enum-told
-    returns-4
+    enum-known-entered
+    enum-known-entered-2
     decide-bytes-requires
     also-location-requires
-    returns-5)
+    returns
+    returns-2
+    returns-3)

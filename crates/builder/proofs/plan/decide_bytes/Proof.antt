@@ -1,6 +1,6 @@
 -- `builder::plan::decide_bytes` meets its contract: its tests are the definition's, and the depths are op's.
 -- Assumes nothing.
-use Rattle.builder.specs.Plan.{bytesOf}
+use Rattle.builder.specs.Inner.{bytesOf}
 use borrow.Author.Needs.{needs}
 use borrow.Author.Tests.{eq-eqb, le-leb, lt-leb, ne-eqb}
 use mathlib.Core.Path.{_∙_, sym}

@@ -1,6 +1,6 @@
 -- `builder::plan::room` meets its contract: its tests are the definition's.
 -- Assumes nothing.
-use Rattle.builder.specs.Plan.{roomOf}
+use Rattle.builder.specs.Inner.{roomOf}
 use borrow.Author.Needs.{needs}
 use borrow.Author.Tests.{le-leb, lt-leb}
 use Rattle.builder.proofs.plan.room.Statement.{statement}
