@@ -40,12 +40,14 @@ use Rattle.builder.proofs.Plans.{Aims, LineGoes, LiveGoes, also-free, b
 -- what a plan comes to
 
 pub emitted-jump : (b : Builder) (k : ℕ) (code locs marks : List ℕ) (p : Plan)
-    → jumpPlanOf (b .core) (b .location) k (length code) (length locs) (length marks) ≡ p → commitJump p b k code locs marks ≡ emitJumpOf b k code locs marks
+    → jumpPlanOf (b .core) (b .location) k (length code) (length locs) (length marks) ≡ p
+    → commitJump p b k code locs marks ≡ emitJumpOf b k code locs marks
 unfolding emitJumpOf
 emitted-jump b k code locs marks p e = sym (ap (λ (q : Plan). commitJump q b k code locs marks) e)
 
 pub jumped-to : (c : Core) (l : Location) (k : ℕ) (t : JumpTarget) (code locs marks : List ℕ) (p : Plan)
-    → toPlanOf c l k t (length code) (length locs) marks ≡ p → commitTo p c l k code locs ≡ jumpToCore c l k t code locs marks
+    → toPlanOf c l k t (length code) (length locs) marks ≡ p
+    → commitTo p c l k code locs ≡ jumpToCore c l k t code locs marks
 unfolding jumpToCore
 jumped-to c l k t code locs marks p e = sym (ap (λ (q : Plan). commitTo q c l k code locs) e)
 
@@ -53,10 +55,12 @@ jumped-to c l k t code locs marks p e = sym (ap (λ (q : Plan). commitTo q c l k
 
 pub near-true : (o t : ℕ) → near o t ≡ true → (o + 3 ≤ t + 32768) × (t ≤ o + 3 + 32767)
 unfolding near
-near-true o t e = let p = both (leb (o + 3) (t + 32768)) (leb t (o + 3 + 32767)) e in (leb-true _ _ (p .0), leb-true _ _ (p .1))
+near-true o t e = let p = both (leb (o + 3) (t + 32768)) (leb t (o + 3 + 32767)) e in
+    (leb-true _ _ (p .0), leb-true _ _ (p .1))
 
 -- a mark that is there is in a used row
-pub mark-used : (rows : ℕ) (marks : List ℕ) (i : ℕ) (m : Mark) → markIn rows marks i ≡ m → (m ≡ Absent → ⊥) → (i < rows) × (markAt marks i ≡ m)
+pub mark-used : (rows : ℕ) (marks : List ℕ) (i : ℕ) (m : Mark) → markIn rows marks i ≡ m → (m ≡ Absent → ⊥)
+    → (i < rows) × (markAt marks i ≡ m)
 unfolding markIn
 mark-used rows marks i m e n = go (ltb i rows) refl e
   where
@@ -78,7 +82,8 @@ module _ (c : Core) (l : Location) (k cl ll ml : ℕ) where
   -- what is decided in parts, live
   pub ahead-live : (h t : ℕ) → Lives (jumpAsked c l k cl ll ml) h → takenDepthOf h k ≡ A.Depth t
       → jumpPlanOf c l k cl ll ml
-      ≡ alsoRow (alsoRow (bytesOf (c .code) h k unpatched 0 t cl) (rowFits l (c .locations) ll) Locations) (rowFree markCells (c .marks) ml) Marks
+      ≡ alsoRow (alsoRow (bytesOf (c .code) h k unpatched 0 t cl) (rowFits l (c .locations) ll) Locations)
+      (rowFree markCells (c .marks) ml) Marks
   unfolding jumpPlanOf
   ahead-live h t e e2 = line-live (jumpAsked c l k cl ll ml) h t e e2 refl refl refl
 
@@ -118,10 +123,12 @@ pub record ToGoes (c : Core) (l : Location) (k : ℕ) (t : JumpTarget) (cl ll : 
   pub goes : LiveGoes c l here k (jumpBy w) 0 w cl ll s a w
 
 -- what is decided in parts, live, at a target's mark
-pub back-live : (c : Core) (l : Location) (k i cl ll ml h e o f : ℕ) (m : Mark) → Lives (toAsked c l k (T.Row i) m cl ll ml) h → takenDepthOf h k ≡ A.Depth e
+pub back-live : (c : Core) (l : Location) (k i cl ll ml h e o f : ℕ) (m : Mark)
+    → Lives (toAsked c l k (T.Row i) m cl ll ml) h → takenDepthOf h k ≡ A.Depth e
     → m ≡ Target o f → eqb e f ≡ true → near (c .code) o ≡ true
     → emittingOf (toAsked c l k (T.Row i) m cl ll ml)
-    ≡ alsoRow (bytesOf (c .code) h k (jumpBy (bits (c .code) o)) 0 (bits (c .code) o) cl) (rowFits l (c .locations) ll) Locations
+    ≡ alsoRow (bytesOf (c .code) h k (jumpBy (bits (c .code) o)) 0 (bits (c .code) o) cl)
+    (rowFits l (c .locations) ll) Locations
 back-live c l k i cl ll ml h e o f m lives takes em meet close =
     rw em (line-live (toAsked c l k (T.Row i) (Target o f) cl ll ml) h e (rw em at lives) takes refl meet close ∙ also-free _)
 
@@ -156,7 +163,8 @@ module _ (c : Core) (l : Location) (k : ℕ) (t : JumpTarget) (m : Mark) (cl ll 
   to-enters x e h = rw (counts-true (markSound (c .code) m) (rowsIn markCells (c .marks) ml) (soundOf c cl ll) e) h
 
 module _ (c : Core) (l : Location) (k : ℕ) (t : JumpTarget) (cl ll : ℕ) (marks : List ℕ) (s w : ℕ) (a : Depth) where
-  by-mark : (m : Mark) → targetMark t (c .marks) marks ≡ m → LineGoes (toAsked c l k t m cl ll (length marks)) a w s → Aims (Back t m)
+  by-mark : (m : Mark) → targetMark t (c .marks) marks ≡ m → LineGoes (toAsked c l k t m cl ll (length marks)) a w s
+      → Aims (Back t m)
       → ToGoes c l k t cl ll marks s a w
   by-mark m em g (i, (o, (d, (et, eo)))) =
       let same : bits (c .code) o ≡ w = sym (rw eo at (g .goes .same)) in

@@ -20,20 +20,23 @@ use Rattle.builder.specs.declared.marks.Mark.the-variants.{Absent, Open,
 use Rattle.builder.specs.declared.patch.PatchPlan.{PatchPlan}
 use Rattle.builder.specs.declared.patch.PatchPlan.the-variants.{Go}
 use Rattle.builder.specs.Tables.{codeLimit, markCells, wordMax}
-use Rattle.builder.specs.Marks.{Markable, bits, fits, markIn, markSound, markable, meets, near, revived}
+use Rattle.builder.specs.Marks.{bits, fits, markIn, markSound, markable, meets, near, revived}
 use Rattle.builder.specs.Patch.{commitPatch, markPlanOf, openPlan, patchGuard, patchJumpOf, patchPlanOf}
+use Rattle.builder.specs.Inner.{Markable}
 use Rattle.builder.proofs.Plans.{both}
 use Rattle.builder.proofs.JumpPlans.{mark-used}
 
 -- what a plan comes to
 pub patched-row : (b : Builder) (label : JumpLabel) (i : ℕ) (code marks : List ℕ) (p : PatchPlan) → label ≡ L.Row i
-    → markable (b .core) (length code) (length marks) ≡ true → markPlanOf (markIn (b .core .marks) marks i) (b .core) ≡ p
+    → markable (b .core) (length code) (length marks) ≡ true
+    → markPlanOf (markIn (b .core .marks) marks i) (b .core) ≡ p
     → commitPatch p b (L.Row i) code marks ≡ patchJumpOf b label code marks
 unfolding patchJumpOf patchPlanOf
 patched-row b label i code marks p el em ep = rw (el, em, ep) refl
 
 -- tests
-pub patch-guard-go : {o w : ℕ} {a : Depth} (t : Bool) (r : Refusal) (p : PatchPlan) → patchGuard t r p ≡ Go a w o → (t ≡ true) × (p ≡ Go a w o)
+pub patch-guard-go : {o w : ℕ} {a : Depth} (t : Bool) (r : Refusal) (p : PatchPlan) → patchGuard t r p ≡ Go a w o
+    → (t ≡ true) × (p ≡ Go a w o)
 patch-guard-go true r p e = (refl, e)
 patch-guard-go false r p e = (cc, cc)
 
@@ -46,7 +49,8 @@ markable-true c cl ml e =
 
 pub fits-true : (depth place code : ℕ) → fits depth place code ≡ true → (depth ≤ wordMax) × (place ≤ code)
 unfolding fits
-fits-true depth place code e = let p = both (leb depth wordMax) (leb place code) e in (leb-true _ _ (p .0), leb-true _ _ (p .1))
+fits-true depth place code e = let p = both (leb depth wordMax) (leb place code) e in
+    (leb-true _ _ (p .0), leb-true _ _ (p .1))
 
 pub record PatchGoes (c : Core) (m : Mark) (o : ℕ) (a : Depth) (w : ℕ) : Type 0 where
   pub depth : ℕ
@@ -88,9 +92,11 @@ module _ (c : Core) (o w : ℕ) (a : Depth) where
       by-mark m m refl (g .0) (g .1)
 
   -- what the patch's writing asks for
-  pub patch-writes : (cl i : ℕ) (marks : List ℕ) → Markable c cl (length marks) → markPlanOf (markIn (c .marks) marks i) c ≡ Go a w o
+  pub patch-writes : (cl i : ℕ) (marks : List ℕ) → Markable c cl (length marks)
+      → markPlanOf (markIn (c .marks) marks i) c ≡ Go a w o
       → (o + 3 ≤ cl) × (i < length marks / markCells)
   patch-writes cl i marks ok e =
       let g = patch-goes (markIn (c .marks) marks i) e in
-      let u = mark-used (c .marks) marks i (Open o (g .depth)) (g .mark) (λ n. let z : _≡_ {A = ℕ} 0 1 = cc in omega arith) in
+      let u = mark-used (c .marks) marks i (Open o (g .depth)) (g .mark)
+      (λ n. let z : _≡_ {A = ℕ} 0 1 = cc in omega arith) in
       (omega (arith, g .place, ok .code), omega (arith, u .0, ok .rows))

@@ -1,5 +1,5 @@
--- The line of the emitting calls: what follows where it goes ahead, or does nothing, and that what is decided in parts is
--- the line.
+-- The line of the emitting calls: what follows where it goes ahead, or does nothing, and that what is decided in parts
+-- is the line.
 -- Assumes nothing.
 use mathlib.Core.Path.{_≡_, refl, sym, ap, _∙_}
 use native.Mathlib.Omega.{arith}
@@ -52,12 +52,14 @@ sound-true c cl ll e =
     let q = both (leb (c .code) cl) (leb (c .code) codeLimit) (p .0) in
     record { code = leb-true _ _ (q .0); limit = leb-true _ _ (q .1); rows = leb-true _ _ (p .1) }
 
-pub marks-sound : (c : Core) (cl ll ml : ℕ) → (rowsIn markCells (c .marks) ml && soundOf c cl ll) ≡ true → (c .marks ≤ ml / markCells) × Sound c cl ll
+pub marks-sound : (c : Core) (cl ll ml : ℕ) → (rowsIn markCells (c .marks) ml && soundOf c cl ll) ≡ true
+    → (c .marks ≤ ml / markCells) × Sound c cl ll
 marks-sound c cl ll ml e =
     let p = both (rowsIn markCells (c .marks) ml) (soundOf c cl ll) e in
     (leb-true _ _ (p .0), sound-true c cl ll (p .1))
 
-pub guard-go : {s w : ℕ} {a : Depth} (t : Bool) (r : Refusal) (p : Plan) → guard t r p ≡ Go a w s → (t ≡ true) × (p ≡ Go a w s)
+pub guard-go : {s w : ℕ} {a : Depth} (t : Bool) (r : Refusal) (p : Plan) → guard t r p ≡ Go a w s
+    → (t ≡ true) × (p ≡ Go a w s)
 guard-go true r p e = (refl, e)
 guard-go false r p e = (cc, cc)
 
@@ -70,7 +72,8 @@ refuse-go e = let z : _≡_ {A = ℕ} 0 1 = cc in omega arith
 -- an instruction that falls through has its opcode's shape
 
 by-effect : (low : Refusal) (d e : ℕ) (t s : Bool) (x : Effect)
-    → landing low d (pick t (pick s x (F.Refused WrongShape)) (F.Refused UnknownOpcode)) ≡ A.Depth e → (t ≡ true) × (s ≡ true)
+    → landing low d (pick t (pick s x (F.Refused WrongShape)) (F.Refused UnknownOpcode)) ≡ A.Depth e
+    → (t ≡ true) × (s ≡ true)
 unfolding landing
 by-effect low d e true true x h = (refl, refl)
 by-effect low d e true false x h = (refl, cc)
@@ -80,12 +83,14 @@ pub after-shape : (d k : ℕ) (o : Operand) (e : ℕ) → afterOf d k o ≡ A.De
 unfolding effectOf shapeOf
 after-shape d k o e h =
     let s = shapeIn (rowOf k) in
-    let q = by-effect lowFalling d e (known k) (eqb (shapeNumber s) (shapeNumber (operandShape o))) (effectBy (ruleIn (rowOf k)) (formerOf o) (lastOf o)) h in
+    let q = by-effect lowFalling d e (known k) (eqb (shapeNumber s) (shapeNumber (operandShape o)))
+    (effectBy (ruleIn (rowOf k)) (formerOf o) (lastOf o)) h in
     rw (q .0) (ap P.Is (same-shape s (operandShape o) (eqb-true _ _ (q .1))))
 
 -- live code
 
-pub record LiveGoes (c : Core) (l : Location) (d k : ℕ) (o : Operand) (n word cl ll s : ℕ) (a : Depth) (w : ℕ) : Type 0 where
+pub record LiveGoes (c : Core) (l : Location) (d k : ℕ) (o : Operand) (n word cl ll s : ℕ) (a : Depth) (w : ℕ)
+    : Type 0 where
   pub few : n ≤ 255
   pub count : namesIn o ≡ n
   pub next : ℕ
@@ -98,7 +103,8 @@ pub record LiveGoes (c : Core) (l : Location) (d k : ℕ) (o : Operand) (n word 
   pub same : w ≡ word
 
 -- what the writer asks for
-pub goes-by : (c : Core) (l : Location) (cl ll d k : ℕ) (o : Operand) (n word s w : ℕ) (a : Depth) → Sound c cl ll → LiveGoes c l d k o n word cl ll s a w
+pub goes-by : (c : Core) (l : Location) (cl ll d k : ℕ) (o : Operand) (n word s w : ℕ) (a : Depth) → Sound c cl ll
+    → LiveGoes c l d k o n word cl ll s a w
     → Goes c l k o n cl ll
 goes-by c l cl ll d k o n word s w a sd g =
     let z = sizeOf (operandShape o) n in
@@ -106,7 +112,8 @@ goes-by c l cl ll d k o n word s w a sd g =
     record {
       sound = sd;
       count = g .count;
-      written = going k o n (cl - c .code) z (record { shape = after-shape d k o (g .next) (g .falls); few = g .few; count = g .count; size = refl; fits = fits });
+      written = going k o n (cl - c .code) z
+          (record { shape = after-shape d k o (g .next) (g .falls); few = g .few; count = g .count; size = refl; fits = fits });
       code = fits;
       limit = rw (sym (g .size)) (g .limit);
       row = g .row;
@@ -128,7 +135,8 @@ pub record Enters (x : Bool) (k name : ℕ) (depth : Depth) (h : ℕ) : Type 0 w
   pub small : name ≤ wordMax
   pub live : depth ≡ Live h
 
-pub enter-live : {h : ℕ} (sound : Bool) (k name : ℕ) (depth : Depth) → enterOf sound k name depth ≡ E.Live h → Enters sound k name depth h
+pub enter-live : {h : ℕ} (sound : Bool) (k name : ℕ) (depth : Depth) → enterOf sound k name depth ≡ E.Live h
+    → Enters sound k name depth h
 unfolding enterOf
 enter-live sound k name depth e =
     let x3 : Entered = depthHere depth in
@@ -142,10 +150,12 @@ enter-live sound k name depth e =
 pub lives-sound : {h : ℕ} (q : Asked) → Lives q h → Sound (q .core) (q .code) (q .locations)
 lives-sound q e =
     let g = enter-live (askSound q) (q .opcode) (q .name) (q .core .depth) e in
-    sound-true (q .core) (q .code) (q .locations) (both (waySound (q .way) (q .core) (q .marks)) (soundOf (q .core) (q .code) (q .locations)) (g .sound) .1)
+    let s = soundOf (q .core) (q .code) (q .locations) in
+    sound-true (q .core) (q .code) (q .locations) (both (waySound (q .way) (q .core) (q .marks)) s (g .sound) .1)
 
 -- what a call of `enter` answered, told the test of 19 by another name
-pub enters-as : {s t : Bool} {x y : Entered} (k name : ℕ) (d : Depth) → x ≡ enterOf s k name d → s ≡ t → x ≡ y → enterOf t k name d ≡ y
+pub enters-as : {s t : Bool} {x y : Entered} (k name : ℕ) (d : Depth) → x ≡ enterOf s k name d → s ≡ t → x ≡ y
+    → enterOf t k name d ≡ y
 enters-as k name d e es ex = ap (λ (s : Bool). enterOf s k name d) (sym es) ∙ sym e ∙ ex
 
 admit-dead : (t : Bool) (r : Refusal) (x : Entered) → admit t r x ≡ E.Dead → x ≡ E.Dead
@@ -168,12 +178,14 @@ enter-dead sound k name depth e =
 
 -- each step, where the plan goes ahead
 
-entered-go : {s w : ℕ} {a : Depth} (x : Entered) (p : ℕ → Plan) → entered x p ≡ Go a w s → (h : ℕ) × ((x ≡ E.Live h) × (p h ≡ Go a w s))
+entered-go : {s w : ℕ} {a : Depth} (x : Entered) (p : ℕ → Plan) → entered x p ≡ Go a w s
+    → (h : ℕ) × ((x ≡ E.Live h) × (p h ≡ Go a w s))
 entered-go E.Dead p e = absurd (idle-go e)
 entered-go (E.Refused r) p e = absurd (refuse-go e)
 entered-go (E.Live h) p e = (h, (refl, e))
 
-arrived-go : {s w : ℕ} {a : Depth} (x : After) (p : ℕ → Plan) → arrived x p ≡ Go a w s → (d : ℕ) × ((x ≡ A.Depth d) × (p d ≡ Go a w s))
+arrived-go : {s w : ℕ} {a : Depth} (x : After) (p : ℕ → Plan) → arrived x p ≡ Go a w s
+    → (d : ℕ) × ((x ≡ A.Depth d) × (p d ≡ Go a w s))
 arrived-go (A.Refused r) p e = absurd (refuse-go e)
 arrived-go (A.Depth d) p e = (d, (refl, e))
 
@@ -227,7 +239,8 @@ pub record LineGoes (q : Asked) (a : Depth) (w s : ℕ) : Type 0 where
   pub aims : Aims (q .way)
   pub meet : meetsAim (q .way) taken ≡ true
   pub close : nearAim (q .way) (q .core .code) ≡ true
-  pub goes : LiveGoes (q .core) (q .location) here (q .opcode) (q .operand) (q .names) (wordBy (q .way) taken (q .core .code)) (q .code) (q .locations) s a w
+  pub goes : LiveGoes (q .core) (q .location) here (q .opcode) (q .operand) (q .names)
+      (wordBy (q .way) taken (q .core .code)) (q .code) (q .locations) s a w
   pub mark : markFree (q .way) (q .core) (q .marks) ≡ true
 
 module _ (q : Asked) where
@@ -266,7 +279,8 @@ module _ (q : Asked) where
   taking h = arrived (takenIn (q .way) h (q .opcode)) (aiming h)
 
   -- what it comes to, once the call has entered
-  pub line-enters : (x : Entered) → enterOf (askSound q) (q .opcode) (q .name) (q .core .depth) ≡ x → emittingOf q ≡ entered x taking
+  pub line-enters : (x : Entered) → enterOf (askSound q) (q .opcode) (q .name) (q .core .depth) ≡ x
+      → emittingOf q ≡ entered x taking
   unfolding emittingOf
   line-enters x e = ap (λ (y : Entered). entered y taking) e
 
@@ -318,7 +332,8 @@ module _ (q : Asked) where
 
   pub line-idle : emittingOf q ≡ Idle → q .core .depth ≡ Dead
   unfolding emittingOf
-  line-idle e = enter-dead (askSound q) (q .opcode) (q .name) (q .core .depth) (entered-idle (enterOf (askSound q) (q .opcode) (q .name) (q .core .depth)) taking takes-busy e)
+  line-idle e = enter-dead (askSound q) (q .opcode) (q .name) (q .core .depth)
+      (entered-idle (enterOf (askSound q) (q .opcode) (q .name) (q .core .depth)) taking takes-busy e)
     where
       done : (t n : ℕ) → last t n ≡ Idle → ⊥
       done t n e = let z : _≡_ {A = ℕ} 0 1 = cc in omega arith
@@ -354,30 +369,38 @@ module _ (q : Asked) where
       (locationFree q) Locations)
       (markFree (q .way) (q .core) (q .marks)) Marks
 
+  abbrev landed : (t : ℕ) → After → Plan
+  landed t z = fallenOf z (q .core .code) (q .opcode) (sizeIn q) (wordBy (q .way) t (q .core .code)) (q .code)
+
   in-parts : (h t : ℕ) → counted h t ≡ parts h t
   unfolding bytesOf roomOf
-  in-parts h t = by-after (leb (q .names) 255) (eqb (namesIn (q .operand)) (q .names)) (afterOf h (q .opcode) (q .operand))
+  in-parts h t =
+      by-after (leb (q .names) 255) (eqb (namesIn (q .operand)) (q .names)) (afterOf h (q .opcode) (q .operand))
     where
-      by-room : (p : Plan) (a : Depth) (x y f g : Bool) → p ≡ Go a (wordBy (q .way) t (q .core .code)) (sizeIn q)
-          → guard (x && y) (Full Code) (guard f (Full Locations) (guard g (Full Marks) p))
-          ≡ alsoRow (alsoRow (guard x (Full Code) (guard y (Full Code) p)) f Locations) g Marks
-      by-room p a true true true g e = rw e refl
-      by-room p a true true false g e = rw e refl
-      by-room p a true false f g e = refl
-      by-room p a false y f g e = refl
+      by-room : (a : Depth) (w s : ℕ) (x y f g : Bool)
+          → guard (x && y) (Full Code) (guard f (Full Locations) (guard g (Full Marks) (Go a w s)))
+          ≡ alsoRow (alsoRow (guard x (Full Code) (guard y (Full Code) (Go a w s))) f Locations) g Marks
+      by-room a w s true true true g = refl
+      by-room a w s true true false g = refl
+      by-room a w s true false f g = refl
+      by-room a w s false y f g = refl
 
       by-after : (x y : Bool) (z : After) → guard x TooManyKeywords (guard y WrongShape (arrived z (coded t)))
-          ≡ alsoRow (alsoRow (guard x TooManyKeywords (guard y WrongShape (fallenOf z (q .core .code) (q .opcode) (sizeIn q) (wordBy (q .way) t (q .core .code)) (q .code)))) (locationFree q) Locations)
+          ≡ alsoRow
+          (alsoRow (guard x TooManyKeywords (guard y WrongShape (landed t z))) (locationFree q) Locations)
           (markFree (q .way) (q .core) (q .marks)) Marks
       by-after false y z = refl
       by-after true false z = refl
       by-after true true (A.Refused r) = refl
       by-after true true (A.Depth n) =
-          by-room (last t n) (behind (q .opcode) n) (leb (sizeIn q) (q .code - q .core .code)) (leb (sizeIn q) (codeLimit - q .core .code)) (locationFree q)
-          (markFree (q .way) (q .core) (q .marks)) refl
+          let z = sizeIn q in
+          by-room (behind (q .opcode) n) (wordBy (q .way) t (q .core .code)) z
+          (leb z (q .code - q .core .code)) (leb z (codeLimit - q .core .code))
+          (locationFree q) (markFree (q .way) (q .core) (q .marks))
 
   -- live, and with the jump's tests passed
-  pub line-live : (h t : ℕ) → Lives q h → takenIn (q .way) h (q .opcode) ≡ A.Depth t → aimed (q .way) (meeting h t) ≡ meeting h t
+  pub line-live : (h t : ℕ) → Lives q h → takenIn (q .way) h (q .opcode) ≡ A.Depth t
+      → aimed (q .way) (meeting h t) ≡ meeting h t
       → meetsAim (q .way) t ≡ true → nearAim (q .way) (q .core .code) ≡ true → emittingOf q ≡ parts h t
   unfolding emittingOf
   line-live h t e1 e2 e3 e4 e5 = rw (e1, e2, e3, e4, e5) (in-parts h t)
@@ -389,12 +412,15 @@ also-free (Go a w s) = refl
 
 -- an emitting call that is no jump
 
-pub plain-live : (c : Core) (l : Location) (k name : ℕ) (o : Operand) (n cl ll h : ℕ) → Lives (plainAsked c l k name o n cl ll) h
+pub plain-live : (c : Core) (l : Location) (k name : ℕ) (o : Operand) (n cl ll h : ℕ)
+    → Lives (plainAsked c l k name o n cl ll) h
     → planOf c l k name o n cl ll ≡ alsoRow (bytesOf (c .code) h k o n 0 cl) (rowFits l (c .locations) ll) Locations
 unfolding planOf
-plain-live c l k name o n cl ll h e = line-live (plainAsked c l k name o n cl ll) h h e refl refl refl refl ∙ also-free _
+plain-live c l k name o n cl ll h e = line-live (plainAsked c l k name o n cl ll) h h e refl refl refl refl
+    ∙ also-free _
 
-pub record PlanGoes (c : Core) (l : Location) (k name : ℕ) (o : Operand) (n cl ll s : ℕ) (a : Depth) (w : ℕ) : Type 0 where
+pub record PlanGoes (c : Core) (l : Location) (k name : ℕ) (o : Operand) (n cl ll s : ℕ) (a : Depth) (w : ℕ)
+    : Type 0 where
   pub sound : Sound c cl ll
   pub known′ : known k ≡ true
   pub small : name ≤ wordMax
@@ -402,7 +428,8 @@ pub record PlanGoes (c : Core) (l : Location) (k name : ℕ) (o : Operand) (n cl
   pub live : c .depth ≡ Live here
   pub goes : LiveGoes c l here k o n 0 cl ll s a w
 
-pub plan-goes : (c : Core) (l : Location) (k name : ℕ) (o : Operand) (n cl ll s w : ℕ) (a : Depth) → planOf c l k name o n cl ll ≡ Go a w s
+pub plan-goes : (c : Core) (l : Location) (k name : ℕ) (o : Operand) (n cl ll s w : ℕ) (a : Depth)
+    → planOf c l k name o n cl ll ≡ Go a w s
     → PlanGoes c l k name o n cl ll s a w
 unfolding planOf
 plan-goes c l k name o n cl ll s w a e =
@@ -416,7 +443,8 @@ plan-goes c l k name o n cl ll s w a e =
       goes = g .goes;
     }
 
-pub goes : (c : Core) (l : Location) (k name : ℕ) (o : Operand) (n cl ll s w : ℕ) (a : Depth) → planOf c l k name o n cl ll ≡ Go a w s → Goes c l k o n cl ll
+pub goes : (c : Core) (l : Location) (k name : ℕ) (o : Operand) (n cl ll s w : ℕ) (a : Depth)
+    → planOf c l k name o n cl ll ≡ Go a w s → Goes c l k o n cl ll
 goes c l k name o n cl ll s w a e =
     let g = plan-goes c l k name o n cl ll s w a e in
     goes-by c l cl ll (g .here) k o n 0 s w a (g .sound) (g .goes)

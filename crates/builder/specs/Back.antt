@@ -47,16 +47,23 @@ toPlanOf core location opcode target code locations marks =
 -- the displacement that a plan found
 abbrev pub wordIn : Plan → ℕ
 wordIn Idle = 0
-wordIn (Refuse r) = 0
+wordIn (Refuse refusal) = 0
 wordIn (Go after word size) = word
 
 -- what such a plan comes to
-abbrev pub commitTo : Plan → Core → Location → ℕ → List ℕ → List ℕ → CoreOutcome
-commitTo p c l k code locs = commitOf p c l (encode k (jumpBy (wordIn p)) []) code locs
+abbrev pub commitTo : (plan : Plan) (core : Core) (location : Location) (opcode : ℕ) (code locations : List ℕ)
+    → CoreOutcome
+commitTo plan core location opcode code locations =
+    commitOf plan core location (encode opcode (jumpBy (wordIn plan)) []) code locations
 
-unfoldable pub jumpToCore : Core → Location → ℕ → JumpTarget → List ℕ → List ℕ → List ℕ → CoreOutcome
-jumpToCore c l k t code locs marks =
-    commitTo (toPlanOf c l k t (length code) (length locs) marks) c l k code locs
+unfoldable pub jumpToCore : (core : Core) (location : Location) (opcode : ℕ) (target : JumpTarget)
+    (code locations marks : List ℕ) → CoreOutcome
+jumpToCore core location opcode target code locations marks =
+    commitTo
+    (toPlanOf core location opcode target (length code) (length locations) marks)
+    core location opcode code locations
 
-unfoldable pub emitJumpToOf : Builder → ℕ → JumpTarget → List ℕ → List ℕ → List ℕ → Outcome
-emitJumpToOf b k t code locs marks = outcomeBy b (jumpToCore (b .core) (b .location) k t code locs marks)
+unfoldable pub emitJumpToOf : (builder : Builder) (opcode : ℕ) (target : JumpTarget) (code locations marks : List ℕ)
+    → Outcome
+emitJumpToOf builder opcode target code locations marks =
+    outcomeBy builder (jumpToCore (builder .core) (builder .location) opcode target code locations marks)

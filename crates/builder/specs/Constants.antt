@@ -13,30 +13,34 @@ use Rattle.builder.specs.declared.Builder.{Builder}
 use Rattle.builder.specs.Tables.{put, wordMax}
 use Rattle.builder.specs.State.{countsOf}
 
+-- the answer, and the constants as the call leaves them
 pub record AddedKept : Type 0 where
   pub answer : Added
   pub cells : List ℕ
 
-abbrev pub addedKept : Added → List ℕ → AddedKept
-addedKept r cells = record { answer = r; cells = cells }
+abbrev pub addedKept : (answer : Added) (cells : List ℕ) → AddedKept
+addedKept answer cells = record { answer = answer; cells = cells }
 
-abbrev pub withConstants : Builder → ℕ → Builder
-withConstants b n = record {
-  core = b .core;
-  location = b .location;
-  exceptions = b .exceptions;
-  constants = n;
-  names = b .names;
-  starts = b .starts;
+-- the same state with so many constants
+abbrev pub withConstants : (builder : Builder) (constants : ℕ) → Builder
+withConstants builder constants = record {
+  core = builder .core;
+  location = builder .location;
+  exceptions = builder .exceptions;
+  constants = constants;
+  names = builder .names;
+  starts = builder .starts;
 }
 
 -- 19, "65,536 or more constants already held", 18; the value at the used end, and its index
-unfoldable pub addConstOf : Builder → ℕ → List ℕ → AddedKept
-addConstOf b value cells =
-    pick (countsOf b (leb (b .constants) (length cells)))
-    (pick (leb (b .constants) wordMax)
-    (pick (ltb (b .constants) (length cells))
-    (addedKept (N.Made (withConstants b (b .constants + 1)) (b .constants)) (put (b .constants) (value ∷ []) cells))
+unfoldable pub addConstOf : (builder : Builder) (value : ℕ) (cells : List ℕ) → AddedKept
+addConstOf builder value cells =
+    pick (countsOf builder (leb (builder .constants) (length cells)))
+    (pick (leb (builder .constants) wordMax)
+    (pick (ltb (builder .constants) (length cells))
+    (addedKept
+    (N.Made (withConstants builder (builder .constants + 1)) (builder .constants))
+    (put (builder .constants) (value ∷ []) cells))
     (addedKept (N.Refused (Full Constants)) cells))
     (addedKept (N.Refused TooManyConstants) cells))
     (addedKept (N.Refused Unsound) cells)

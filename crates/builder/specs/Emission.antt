@@ -1,4 +1,5 @@
--- The model of emission: answer, state and tables after an emitting call: builder.rs, `emit_with_operand` and the calls over it.
+-- The model of emission: answer, state and tables after an emitting call: builder.rs, `emit_with_operand` and the calls
+-- over it.
 -- Assumes nothing.
 use mathlib.Core.List.{List}
 use Prim.Native.Nat.{ℕ, _+_}
@@ -23,12 +24,17 @@ use Rattle.builder.specs.Locations.{locationsAfter, rowsAfter}
 use Rattle.builder.specs.Plan.{planOf}
 
 -- the core with so many location rows, after an instruction of so many bytes
-abbrev pub coreWith : Core → ℕ → ℕ → Depth → Core
-coreWith c rows size after = record { code = c .code + size; locations = rows; marks = c .marks; depth = after }
+abbrev pub coreWith : (core : Core) (rows size : ℕ) (after : Depth) → Core
+coreWith core rows size after = record {
+  code = core .code + size;
+  locations = rows;
+  marks = core .marks;
+  depth = after;
+}
 
 -- the same, the location's row counted
-abbrev pub coreAfter : Core → Location → ℕ → Depth → Core
-coreAfter c l size after = coreWith c (rowsAfter l (c .locations)) size after
+abbrev pub coreAfter : (core : Core) (location : Location) (size : ℕ) (after : Depth) → Core
+coreAfter core location size after = coreWith core (rowsAfter location (core .locations)) size after
 
 -- the answer of the core, and code and locations as the call leaves them
 pub record CoreOutcome : Type 0 where
@@ -36,20 +42,26 @@ pub record CoreOutcome : Type 0 where
   pub code : List ℕ
   pub locations : List ℕ
 
-abbrev pub coreOutcome : CoreAnswer → List ℕ → List ℕ → CoreOutcome
-coreOutcome r code locs = record { answer = r; code = code; locations = locs }
+abbrev pub coreOutcome : (answer : CoreAnswer) (code locations : List ℕ) → CoreOutcome
+coreOutcome answer code locations = record { answer = answer; code = code; locations = locations }
 
 -- what a plan comes to: the bytes at the used end and a location's row, or no change
-abbrev pub commitOf : Plan → Core → Location → List ℕ → List ℕ → List ℕ → CoreOutcome
-commitOf Idle c l bytes code locs = coreOutcome (C.Accepted c) code locs
-commitOf (Refuse r) c l bytes code locs = coreOutcome (C.Refused r) code locs
-commitOf (Go after word size) c l bytes code locs =
-    coreOutcome (C.Accepted (coreAfter c l size after)) (put (c .code) bytes code) (locationsAfter l (c .locations) (c .code) locs)
+abbrev pub commitOf : Plan → (core : Core) (location : Location) (bytes code locations : List ℕ) → CoreOutcome
+commitOf Idle core location bytes code locations = coreOutcome (C.Accepted core) code locations
+commitOf (Refuse refusal) core location bytes code locations = coreOutcome (C.Refused refusal) code locations
+commitOf (Go after word size) core location bytes code locations =
+    coreOutcome
+    (C.Accepted (coreAfter core location size after))
+    (put (core .code) bytes code)
+    (locationsAfter location (core .locations) (core .code) locations)
 
 -- emission on the core
-unfoldable pub emitCore : Core → Location → ℕ → ℕ → Operand → List ℕ → List ℕ → List ℕ → CoreOutcome
-emitCore c l k name o ns code locs =
-    commitOf (planOf c l k name o (length ns) (length code) (length locs)) c l (encode k o ns) code locs
+unfoldable pub emitCore : (core : Core) (location : Location) (opcode name : ℕ) (operand : Operand)
+    (names code locations : List ℕ) → CoreOutcome
+emitCore core location opcode name operand names code locations =
+    commitOf
+    (planOf core location opcode name operand (length names) (length code) (length locations))
+    core location (encode opcode operand names) code locations
 
 -- the answer, and code and locations as the call leaves them
 pub record Outcome : Type 0 where
@@ -57,19 +69,21 @@ pub record Outcome : Type 0 where
   pub code : List ℕ
   pub locations : List ℕ
 
-abbrev pub outcome : Answer → List ℕ → List ℕ → Outcome
-outcome r code locs = record { answer = r; code = code; locations = locs }
+abbrev pub outcome : (answer : Answer) (code locations : List ℕ) → Outcome
+outcome answer code locations = record { answer = answer; code = code; locations = locations }
 
 abbrev pub outcomeBy : Builder → CoreOutcome → Outcome
-outcomeBy b x = outcome (answerBy b (x .answer)) (x .code) (x .locations)
+outcomeBy builder left = outcome (answerBy builder (left .answer)) (left .code) (left .locations)
 
 -- an instruction whose operand holds a name
-unfoldable pub emitNamed : Builder → ℕ → ℕ → Operand → List ℕ → List ℕ → List ℕ → Outcome
-emitNamed b k name o ns code locs = outcomeBy b (emitCore (b .core) (b .location) k name o ns code locs)
+unfoldable pub emitNamed : (builder : Builder) (opcode name : ℕ) (operand : Operand) (names code locations : List ℕ)
+    → Outcome
+emitNamed builder opcode name operand names code locations =
+    outcomeBy builder (emitCore (builder .core) (builder .location) opcode name operand names code locations)
 
 -- any other: document 01's 8 does not look at it
-abbrev pub emitOf : Builder → ℕ → Operand → List ℕ → List ℕ → List ℕ → Outcome
-emitOf b k o ns code locs = emitNamed b k 0 o ns code locs
+abbrev pub emitOf : (builder : Builder) (opcode : ℕ) (operand : Operand) (names code locations : List ℕ) → Outcome
+emitOf builder opcode operand names code locations = emitNamed builder opcode 0 operand names code locations
 
 -- op.rs, the opcodes that the calls name themselves
 abbrev pub LoadLocal0 : ℕ

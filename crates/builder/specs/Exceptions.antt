@@ -18,28 +18,30 @@ use Rattle.builder.specs.State.{Kept, countsOf, kept, unless}
 abbrev pub offsetMax : ℕ
 offsetMax = 4294967295
 
-unfoldable pub offsetsFit : ℕ → ℕ → ℕ → Bool
+unfoldable pub offsetsFit : (start end handler : ℕ) → Bool
 offsetsFit start end handler = leb start offsetMax && leb end offsetMax && leb handler offsetMax
 
 -- "start, end, handler, depth, exception count, kind"
-abbrev pub exceptionRow : ℕ → ℕ → ℕ → ℕ → ℕ → HandlerKind → List ℕ
+abbrev pub exceptionRow : (start end handler depth count : ℕ) (kind : HandlerKind) → List ℕ
 exceptionRow start end handler depth count kind = start ∷ end ∷ handler ∷ depth ∷ count ∷ kindNumber kind ∷ []
 
-abbrev pub withExceptions : Builder → ℕ → Builder
-withExceptions b n = record {
-  core = b .core;
-  location = b .location;
-  exceptions = n;
-  constants = b .constants;
-  names = b .names;
-  starts = b .starts;
+-- the same state with so many exceptions
+abbrev pub withExceptions : (builder : Builder) (exceptions : ℕ) → Builder
+withExceptions builder exceptions = record {
+  core = builder .core;
+  location = builder .location;
+  exceptions = exceptions;
+  constants = builder .constants;
+  names = builder .names;
+  starts = builder .starts;
 }
 
 -- 19, 10, 18; the row at the used end
-unfoldable pub addExceptionOf : Builder → ℕ → ℕ → ℕ → ℕ → ℕ → HandlerKind → List ℕ → Kept
-addExceptionOf b start end handler depth count kind cells =
-    unless (countsOf b (rowsIn exceptionCells (b .exceptions) (length cells))) Unsound cells
+unfoldable pub addExceptionOf : (builder : Builder) (start end handler depth count : ℕ) (kind : HandlerKind)
+    (cells : List ℕ) → Kept
+addExceptionOf builder start end handler depth count kind cells =
+    unless (countsOf builder (rowsIn exceptionCells (builder .exceptions) (length cells))) Unsound cells
     (unless (offsetsFit start end handler) TooLarge cells
-    (unless (rowFree exceptionCells (b .exceptions) (length cells)) (Full Exceptions) cells
-    (kept (Accepted (withExceptions b (b .exceptions + 1)))
-    (put (b .exceptions * exceptionCells) (exceptionRow start end handler depth count kind) cells))))
+    (unless (rowFree exceptionCells (builder .exceptions) (length cells)) (Full Exceptions) cells
+    (kept (Accepted (withExceptions builder (builder .exceptions + 1)))
+    (put (builder .exceptions * exceptionCells) (exceptionRow start end handler depth count kind) cells))))

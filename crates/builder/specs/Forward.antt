@@ -51,20 +51,29 @@ pub record JumpOutcome : Type 0 where
   pub locations : List ℕ
   pub marks : List ℕ
 
-abbrev pub jumpOutcome : Jumped → List ℕ → List ℕ → List ℕ → JumpOutcome
-jumpOutcome r code locs marks = record { answer = r; code = code; locations = locs; marks = marks }
+abbrev pub jumpOutcome : (answer : Jumped) (code locations marks : List ℕ) → JumpOutcome
+jumpOutcome answer code locations marks = record {
+  answer = answer;
+  code = code;
+  locations = locations;
+  marks = marks;
+}
 
 -- an open label's mark at the used end, with the jump's offset and the depth that it arrives with
-abbrev pub commitJump : Plan → Builder → ℕ → List ℕ → List ℕ → List ℕ → JumpOutcome
-commitJump Idle b k code locs marks = jumpOutcome (J.Made b L.Dead) code locs marks
-commitJump (Refuse r) b k code locs marks = jumpOutcome (J.Refused r) code locs marks
-commitJump (Go after t size) b k code locs marks =
+abbrev pub commitJump : Plan → (builder : Builder) (opcode : ℕ) (code locations marks : List ℕ) → JumpOutcome
+commitJump Idle builder opcode code locations marks = jumpOutcome (J.Made builder L.Dead) code locations marks
+commitJump (Refuse refusal) builder opcode code locations marks = jumpOutcome (J.Refused refusal) code locations marks
+commitJump (Go after taken size) builder opcode code locations marks =
+    let core = builder .core in
+    let next = withMarks (coreAfter core (builder .location) size after) (core .marks + 1) in
     jumpOutcome
-    (J.Made (withCore b (withMarks (coreAfter (b .core) (b .location) size after) (b .core .marks + 1))) (L.Row (b .core .marks)))
-    (put (b .core .code) (encode k unpatched []) code)
-    (locationsAfter (b .location) (b .core .locations) (b .core .code) locs)
-    (put (b .core .marks * markCells) (markRow openKind (b .core .code) t) marks)
+    (J.Made (withCore builder next) (L.Row (core .marks)))
+    (put (core .code) (encode opcode unpatched []) code)
+    (locationsAfter (builder .location) (core .locations) (core .code) locations)
+    (put (core .marks * markCells) (markRow openKind (core .code) taken) marks)
 
-unfoldable pub emitJumpOf : Builder → ℕ → List ℕ → List ℕ → List ℕ → JumpOutcome
-emitJumpOf b k code locs marks =
-    commitJump (jumpPlanOf (b .core) (b .location) k (length code) (length locs) (length marks)) b k code locs marks
+unfoldable pub emitJumpOf : (builder : Builder) (opcode : ℕ) (code locations marks : List ℕ) → JumpOutcome
+emitJumpOf builder opcode code locations marks =
+    commitJump
+    (jumpPlanOf (builder .core) (builder .location) opcode (length code) (length locations) (length marks))
+    builder opcode code locations marks

@@ -69,6 +69,12 @@ pub record Sound (c : Core) (cl ll : ℕ) : Type 0 where
   pub limit : c .code ≤ codeLimit
   pub rows : c .locations ≤ ll / locationCells
 
+-- the same of a call that is lent code and marks
+pub record Markable (c : Core) (cl ml : ℕ) : Type 0 where
+  pub code : c .code ≤ cl
+  pub limit : c .code ≤ codeLimit
+  pub rows : c .marks ≤ ml / markCells
+
 -- what is known where a plan goes ahead
 pub record Goes (c : Core) (l : Location) (k : ℕ) (o : Operand) (n cl ll : ℕ) : Type 0 where
   pub sound : Sound c cl ll

@@ -14,53 +14,58 @@ use Rattle.builder.specs.Tables.{markCells, put, rowsIn}
 use Rattle.builder.specs.State.{Kept, countsOf, kept, unless}
 use Rattle.builder.specs.Marks.{anyOpen}
 
-abbrev pub withNames : Builder → ℕ → Builder
-withNames b n = record {
-  core = b .core;
-  location = b .location;
-  exceptions = b .exceptions;
-  constants = b .constants;
-  names = n;
-  starts = b .starts;
+-- the same state with so many names
+abbrev pub withNames : (builder : Builder) (names : ℕ) → Builder
+withNames builder names = record {
+  core = builder .core;
+  location = builder .location;
+  exceptions = builder .exceptions;
+  constants = builder .constants;
+  names = names;
+  starts = builder .starts;
 }
 
--- a name's cell
-abbrev pub nameCell : ℕ → ℕ
+-- a name's cell: "0 absent, else number+1"
+abbrev pub nameCell : (name : ℕ) → ℕ
 nameCell name = name + 1
 
 -- 19, 16, 18; the names of slots 0, 1, ..
-unfoldable pub registerNamesOf : Builder → List ℕ → List ℕ → Kept
-registerNamesOf b ns cells =
-    unless (countsOf b (leb (b .names) (length cells))) Unsound cells
-    (unless (eqb (b .names) 0) NamesHeld cells
-    (unless (leb (length ns) (length cells)) (Full Names) cells
-    (kept (Accepted (withNames b (length ns))) (put 0 (map nameCell ns) cells))))
+unfoldable pub registerNamesOf : (builder : Builder) (names cells : List ℕ) → Kept
+registerNamesOf builder names cells =
+    unless (countsOf builder (leb (builder .names) (length cells))) Unsound cells
+    (unless (eqb (builder .names) 0) NamesHeld cells
+    (unless (leb (length names) (length cells)) (Full Names) cells
+    (kept (Accepted (withNames builder (length names))) (put 0 (map nameCell names) cells))))
 
 -- "extends with absent slots"
-abbrev pub extension : ℕ → ℕ → List ℕ
-extension n name = replicate n 0 ++ nameCell name ∷ []
+abbrev pub extension : (absent name : ℕ) → List ℕ
+extension absent name = replicate absent 0 ++ nameCell name ∷ []
 
 -- "and never overwrites a name"
-abbrev pub named : ℕ → ℕ → ℕ
+abbrev pub named : (cell name : ℕ) → ℕ
 named cell name = pick (eqb cell 0) (nameCell name) cell
 
 -- 19, 18; a slot that is held, or one past them
-unfoldable pub registerNameOf : Builder → ℕ → ℕ → List ℕ → Kept
-registerNameOf b slot name cells =
-    unless (countsOf b (leb (b .names) (length cells))) Unsound cells
-    (pick (ltb slot (b .names))
-    (kept (Accepted b) (set cells slot (named (getD cells slot 0) name)))
+unfoldable pub registerNameOf : (builder : Builder) (slot name : ℕ) (cells : List ℕ) → Kept
+registerNameOf builder slot name cells =
+    unless (countsOf builder (leb (builder .names) (length cells))) Unsound cells
+    (pick (ltb slot (builder .names))
+    (kept (Accepted builder) (set cells slot (named (getD cells slot 0) name)))
     (unless (ltb slot (length cells)) (Full Names) cells
-    (kept (Accepted (withNames b (slot + 1))) (put (b .names) (extension (slot - b .names) name) cells))))
+    (kept
+    (Accepted (withNames builder (slot + 1)))
+    (put (builder .names) (extension (slot - builder .names) name) cells))))
 
 -- "the name that fills absent slots", in the used cells
-abbrev pub filledNames : ℕ → ℕ → List ℕ → List ℕ
-filledNames n name cells = map (λ (cell : ℕ). named cell name) (take n cells) ++ drop n cells
+abbrev pub filledNames : (used name : ℕ) (cells : List ℕ) → List ℕ
+filledNames used name cells = map (λ (cell : ℕ). named cell name) (take used cells) ++ drop used cells
 
 -- 19, 17
-unfoldable pub buildOf : Builder → ℕ → List ℕ → List ℕ → Kept
-buildOf b name cells marks =
-    unless (countsOf b (leb (b .names) (length cells) && rowsIn markCells (b .core .marks) (length marks))) Unsound cells
-    (pick (anyOpen (b .core .marks) marks)
+unfoldable pub buildOf : (builder : Builder) (name : ℕ) (cells marks : List ℕ) → Kept
+buildOf builder name cells marks =
+    unless
+    (countsOf builder (leb (builder .names) (length cells) && rowsIn markCells (builder .core .marks) (length marks)))
+    Unsound cells
+    (pick (anyOpen (builder .core .marks) marks)
     (kept (Refused OpenLabel) cells)
-    (kept (Accepted b) (filledNames (b .names) name cells)))
+    (kept (Accepted builder) (filledNames (builder .names) name cells)))

@@ -23,34 +23,37 @@ use Rattle.builder.specs.Marks.{bits, markIn, markSound, markable, meets
 
 -- go on where the test holds, else refuse
 abbrev pub patchGuard : Bool → Refusal → PatchPlan → PatchPlan
-patchGuard true r p = p
-patchGuard false r p = Refuse r
+patchGuard true refusal plan = plan
+patchGuard false refusal plan = Refuse refusal
 
 -- 13, 14, 11, 6
-abbrev pub openPlan : Mark → Core → PatchPlan
-openPlan Absent c = Refuse NoSuchMark
-openPlan (Target o d) c = Refuse NoSuchMark
-openPlan (Patched o d) c = Refuse AlreadyPatched
-openPlan (Open o d) c =
-    patchGuard (meets (c .depth) d) DepthsDiffer
-    (patchGuard (near o (c .code)) JumpTooFar
-    (Go (revived (c .depth) d) (bits o (c .code)) o))
+abbrev pub openPlan : (mark : Mark) (core : Core) → PatchPlan
+openPlan Absent core = Refuse NoSuchMark
+openPlan (Target offset depth) core = Refuse NoSuchMark
+openPlan (Patched offset depth) core = Refuse AlreadyPatched
+openPlan (Open offset depth) core =
+    patchGuard (meets (core .depth) depth) DepthsDiffer
+    (patchGuard (near offset (core .code)) JumpTooFar
+    (Go (revived (core .depth) depth) (bits offset (core .code)) offset))
 
 -- 19 of the mark
-unfoldable pub markPlanOf : Mark → Core → PatchPlan
-markPlanOf m c = patchGuard (markSound (c .code) m) Unsound (openPlan m c)
+unfoldable pub markPlanOf : (mark : Mark) (core : Core) → PatchPlan
+markPlanOf mark core = patchGuard (markSound (core .code) mark) Unsound (openPlan mark core)
 
-abbrev pub labelPlan : JumpLabel → Core → List ℕ → PatchPlan
-labelPlan L.Dead c marks = Idle
-labelPlan (L.Row i) c marks = markPlanOf (markIn (c .marks) marks i) c
+-- Dead (accepted, no change)
+abbrev pub labelPlan : (label : JumpLabel) (core : Core) (marks : List ℕ) → PatchPlan
+labelPlan L.Dead core marks = Idle
+labelPlan (L.Row row) core marks = markPlanOf (markIn (core .marks) marks row) core
 
-unfoldable pub patchPlanOf : Core → JumpLabel → ℕ → List ℕ → PatchPlan
-patchPlanOf c label cl marks = patchGuard (markable c cl (length marks)) Unsound (labelPlan label c marks)
+-- 19 of the counts
+unfoldable pub patchPlanOf : (core : Core) (label : JumpLabel) (code : ℕ) (marks : List ℕ) → PatchPlan
+patchPlanOf core label code marks =
+    patchGuard (markable core code (length marks)) Unsound (labelPlan label core marks)
 
 -- a label's row
 abbrev pub labelRow : JumpLabel → ℕ
 labelRow L.Dead = 0
-labelRow (L.Row i) = i
+labelRow (L.Row row) = row
 
 -- the answer, and code and marks as the call leaves them
 pub record PatchOutcome : Type 0 where
@@ -58,17 +61,18 @@ pub record PatchOutcome : Type 0 where
   pub code : List ℕ
   pub marks : List ℕ
 
-abbrev pub patchOutcome : Answer → List ℕ → List ℕ → PatchOutcome
-patchOutcome r code marks = record { answer = r; code = code; marks = marks }
+abbrev pub patchOutcome : (answer : Answer) (code marks : List ℕ) → PatchOutcome
+patchOutcome answer code marks = record { answer = answer; code = code; marks = marks }
 
 -- "A patch writes it at offset+1 and +2 and no other byte", "Patching records kind 2"
-abbrev pub commitPatch : PatchPlan → Builder → JumpLabel → List ℕ → List ℕ → PatchOutcome
-commitPatch Idle b label code marks = patchOutcome (Accepted b) code marks
-commitPatch (Refuse r) b label code marks = patchOutcome (Refused r) code marks
-commitPatch (Go after w offset) b label code marks =
-    patchOutcome (Accepted (withCore b (withDepth (b .core) after)))
-    (put (offset + 1) (wordBytes w) code)
+abbrev pub commitPatch : PatchPlan → (builder : Builder) (label : JumpLabel) (code marks : List ℕ) → PatchOutcome
+commitPatch Idle builder label code marks = patchOutcome (Accepted builder) code marks
+commitPatch (Refuse refusal) builder label code marks = patchOutcome (Refused refusal) code marks
+commitPatch (Go after word offset) builder label code marks =
+    patchOutcome (Accepted (withCore builder (withDepth (builder .core) after)))
+    (put (offset + 1) (wordBytes word) code)
     (set marks (labelRow label * markCells) patchedKind)
 
-unfoldable pub patchJumpOf : Builder → JumpLabel → List ℕ → List ℕ → PatchOutcome
-patchJumpOf b label code marks = commitPatch (patchPlanOf (b .core) label (length code) marks) b label code marks
+unfoldable pub patchJumpOf : (builder : Builder) (label : JumpLabel) (code marks : List ℕ) → PatchOutcome
+patchJumpOf builder label code marks =
+    commitPatch (patchPlanOf (builder .core) label (length code) marks) builder label code marks

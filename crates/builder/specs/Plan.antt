@@ -41,8 +41,8 @@ pub data Way : Type 0 where
   Ahead : Way
   Back : (target : JumpTarget) (mark : Mark) → Way
 
--- the state that matters and the instruction: `name` is the name in the operand, 0 without one, and `names` says how many
--- keyword names there are; then how many cells each lent table has
+-- the state that matters and the instruction: `name` is the name in the operand, 0 without one, and `names` says how
+-- many keyword names there are; then how many cells each lent table has
 pub record Asked : Type 0 where
   pub core : Core
   pub location : Location

@@ -18,46 +18,46 @@ use Rattle.builder.specs.declared.state.CoreAnswer.the-variants as C
 use Rattle.builder.specs.Tables.{codeLimit}
 
 -- the same state with another core
-abbrev pub withCore : Builder → Core → Builder
-withCore b c = record {
-  core = c;
-  location = b .location;
-  exceptions = b .exceptions;
-  constants = b .constants;
-  names = b .names;
-  starts = b .starts;
+abbrev pub withCore : (builder : Builder) (core : Core) → Builder
+withCore builder core = record {
+  core = core;
+  location = builder .location;
+  exceptions = builder .exceptions;
+  constants = builder .constants;
+  names = builder .names;
+  starts = builder .starts;
 }
 
 -- the state around an answer of the core
-abbrev pub answerBy : Builder → CoreAnswer → Answer
-answerBy b (C.Accepted c) = Accepted (withCore b c)
-answerBy b (C.Refused r) = Refused r
+abbrev pub answerBy : (builder : Builder) → CoreAnswer → Answer
+answerBy builder (C.Accepted core) = Accepted (withCore builder core)
+answerBy builder (C.Refused refusal) = Refused refusal
 
 -- the same core with another count of marks
-abbrev pub withMarks : Core → ℕ → Core
-withMarks c n = record { code = c .code; locations = c .locations; marks = n; depth = c .depth }
+abbrev pub withMarks : (core : Core) (marks : ℕ) → Core
+withMarks core marks = record { code = core .code; locations = core .locations; marks = marks; depth = core .depth }
 
 -- the same core with another depth
-abbrev pub withDepth : Core → Depth → Core
-withDepth c d = record { code = c .code; locations = c .locations; marks = c .marks; depth = d }
+abbrev pub withDepth : (core : Core) (depth : Depth) → Core
+withDepth core depth = record { code = core .code; locations = core .locations; marks = core .marks; depth = depth }
 
 -- whether the code is dead
 abbrev pub deadOf : Depth → Bool
 deadOf Dead = true
-deadOf (Live d) = false
+deadOf (Live depth) = false
 
 -- the answer of a call, and the one table that it was lent to change
 pub record Kept : Type 0 where
   pub answer : Answer
   pub cells : List ℕ
 
-abbrev pub kept : Answer → List ℕ → Kept
-kept r cells = record { answer = r; cells = cells }
+abbrev pub kept : (answer : Answer) (cells : List ℕ) → Kept
+kept answer cells = record { answer = answer; cells = cells }
 
 -- go on where the test holds, else refuse and change nothing
-abbrev pub unless : Bool → Refusal → List ℕ → Kept → Kept
-unless t r cells k = pick t k (kept (Refused r) cells)
+abbrev pub unless : (test : Bool) (refusal : Refusal) (cells : List ℕ) → Kept → Kept
+unless test refusal cells on = pick test on (kept (Refused refusal) cells)
 
 -- 19 of a call that is lent no code: "the code count 1,048,576", and its own count
-abbrev pub countsOf : Builder → Bool → Bool
-countsOf b t = leb (b .core .code) codeLimit && t
+abbrev pub countsOf : (builder : Builder) (own : Bool) → Bool
+countsOf builder own = leb (builder .core .code) codeLimit && own

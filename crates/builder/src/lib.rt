@@ -1,5 +1,5 @@
-// The builder: CodeBuilder of pydantic/monty's builder.rs. The state goes in and comes out by value, the tables are lent,
-// and each call decides before it writes, so that a refusal changes neither.
+// The builder: CodeBuilder of pydantic/monty's builder.rs. The state goes in and comes out by value, the tables are
+// lent, and each call decides before it writes, so that a refusal changes neither.
 use code::CodeRange;
 use code::Focus;
 use op::Refusal;

@@ -1,6 +1,7 @@
 // Marks: reading and making them, and how far a jump goes.
 ghost use Prim.Native.Nat.{_≤_, _+_, _/_};
-ghost use Rattle.builder.specs.Marks.{targetOutcome, targetAt, anyOpen, markOf, markIn, fits, markSound, markable, near, bits, meets, revived};
+ghost use Rattle.builder.specs.Marks.{targetOutcome, targetAt, anyOpen, markOf, markIn, fits, markSound};
+ghost use Rattle.builder.specs.Marks.{markable, near, bits, meets, revived};
 ghost use Rattle.builder.specs.Tables.{codeLimit, markCells, jumpSize};
 ghost use lib.ListN.{length};
 ghost use mathlib.Core.Path.{_≡_};

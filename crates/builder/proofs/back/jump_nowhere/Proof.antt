@@ -11,7 +11,6 @@ use mathlib.Core.Path.{_∙_, refl, sym}
 use borrow.Author.Needs.{needs}
 use Rattle.builder.proofs.back.jump_nowhere.Statement.{statement}
 use Rattle.builder.proofs.back.jump_nowhere.Tie as tie
-use Rattle.builder.specs.Plan.{entered}
 use Rattle.builder.specs.Back.{toAsked, toPlanOf}
 
 sound-with-marks-requires : tie.Need-sound-with-marks-requires

@@ -6,7 +6,6 @@ use borrow.Author.Needs.{needs}
 use mathlib.Core.Path.{sym}
 use Rattle.builder.proofs.forward.decide_jump.Statement.{statement}
 use Rattle.builder.proofs.forward.decide_jump.Tie as tie
-use Rattle.builder.specs.Plan.{entered}
 use Rattle.builder.specs.Forward.{jumpAsked, jumpPlanOf}
 
 sound-with-marks-requires : tie.Need-sound-with-marks-requires

@@ -9,7 +9,7 @@ use borrow.Author.Needs.{needs}
 use Rattle.builder.proofs.plan.decide.Statement.{statement}
 use Rattle.builder.proofs.plan.decide.Tie as tie
 use Rattle.builder.specs.Locations.{rowFits}
-use Rattle.builder.specs.Plan.{entered, plainAsked, planOf}
+use Rattle.builder.specs.Plan.{plainAsked, planOf}
 use Rattle.builder.specs.Inner.{alsoRow}
 
 sound-requires : tie.Need-sound-requires
