@@ -15,10 +15,11 @@ use Rattle.code.specs.declared.Written.the-variants.{Size}
 use Rattle.builder.specs.declared.Core.{Core}
 use Rattle.builder.specs.declared.Location.{Location}
 use Rattle.builder.specs.declared.Location.the-variants.{Set}
-use Rattle.builder.specs.declared.Plan.{Plan}
+use Rattle.builder.specs.declared.plan.Plan.{Plan}
 use Rattle.builder.specs.Tables.{locationCells, put}
+use Rattle.builder.specs.Locations.{locationRow, locationsAfter, rowsAfter}
 use Rattle.builder.specs.Plan.{planOf}
-use Rattle.builder.specs.Emit.{locationRow, rowsAfter, locationsAfter, commitOf, emitCore}
+use Rattle.builder.specs.Emission.{commitOf, emitCore}
 use Rattle.builder.proofs.Putting.{put-lent, length-lent}
 
 -- what a plan comes to

@@ -5,4 +5,3 @@ pub mod JumpPlans
 pub mod PatchPlans
 pub mod Naming
 pub mod Displacing
-pub mod Numbered

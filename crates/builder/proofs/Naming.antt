@@ -14,7 +14,8 @@ use Rattle.code.specs.Bytes.{front}
 use Rattle.code.proofs.Stores.{front-more}
 use Rattle.builder.specs.Tables.{markCells}
 use Rattle.builder.specs.Marks.{openKind}
-use Rattle.builder.specs.Calls.{anyOpen, extension, nameCell}
+use Rattle.builder.specs.Marks.{anyOpen}
+use Rattle.builder.specs.Names.{extension, nameCell}
 
 -- one cell more behind p
 pub front-one : (p l : List ℕ) (i v : ℕ) → length p ≡ i → i < length l → set (front p l) i v ≡ front (p ++ v ∷ []) l

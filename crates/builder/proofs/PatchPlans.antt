@@ -1,38 +1,45 @@
 -- What follows where the plan of a patch goes ahead, and what such a plan comes to.
 -- Assumes nothing.
 use mathlib.Core.Path.{_≡_, refl, sym, ap, _∙_}
-use mathlib.Core.Bool.{true, _&&_}
+use mathlib.Core.Bool.{Bool, true, false, _&&_}
 use mathlib.Core.List.{List}
 use Prim.Native.Nat.{ℕ, _+_, _/_, _≤_, _<_}
 use native.Mathlib.Omega.{arith}
 use lib.Dec.{leb}
 use lib.ListN.{length}
 use borrow.Author.Tests.{leb-true}
+use Rattle.op.specs.declared.Refusal.{Refusal}
 use Rattle.op.specs.declared.Refusal.the-variants.{JumpTooFar, DepthsDiffer, Unsound}
 use Rattle.builder.specs.declared.Builder.{Builder}
 use Rattle.builder.specs.declared.Core.{Core}
 use Rattle.builder.specs.declared.Depth.{Depth}
 use Rattle.builder.specs.declared.JumpLabel.{JumpLabel}
 use Rattle.builder.specs.declared.JumpLabel.the-variants as L
-use Rattle.builder.specs.declared.Mark.{Mark}
-use Rattle.builder.specs.declared.Mark.the-variants.{Absent, Open, Patched, Target}
-use Rattle.builder.specs.declared.Plan.{Plan}
-use Rattle.builder.specs.declared.Plan.the-variants.{Go}
+use Rattle.builder.specs.declared.marks.Mark.{Mark}
+use Rattle.builder.specs.declared.marks.Mark.the-variants.{Absent, Open, Patched, Target}
+use Rattle.builder.specs.declared.patch.PatchPlan.{PatchPlan}
+use Rattle.builder.specs.declared.patch.PatchPlan.the-variants.{Go}
 use Rattle.builder.specs.Tables.{codeLimit, markCells, wordMax}
-use Rattle.builder.specs.Plan.{guard}
-use Rattle.builder.specs.Marks.{markIn, fits, markSound, markable, Markable, near, bits, meets, revived}
-use Rattle.builder.specs.Patch.{openPlan, markPlanOf, patchPlanOf, commitPatch, patchJumpOf}
-use Rattle.builder.proofs.Plans.{both, guard-go}
+use Rattle.builder.specs.Marks.{bits, fits, markIn, markSound, markable, meets, near, revived}
+use Rattle.builder.specs.Patch.{commitPatch, markPlanOf, openPlan, patchGuard, patchJumpOf, patchPlanOf}
+use Rattle.builder.specs.Inner.{Markable}
+use Rattle.builder.proofs.Plans.{both}
 use Rattle.builder.proofs.JumpPlans.{mark-used}
 
 -- what a plan comes to
-pub patched-row : (b : Builder) (label : JumpLabel) (i : ℕ) (code marks : List ℕ) (p : Plan) → label ≡ L.Row i
-    → markable (b .core) (length code) (length marks) ≡ true → markPlanOf (markIn (b .core .marks) marks i) (b .core) ≡ p
+pub patched-row : (b : Builder) (label : JumpLabel) (i : ℕ) (code marks : List ℕ) (p : PatchPlan) → label ≡ L.Row i
+    → markable (b .core) (length code) (length marks) ≡ true
+    → markPlanOf (markIn (b .core .marks) marks i) (b .core) ≡ p
     → commitPatch p b (L.Row i) code marks ≡ patchJumpOf b label code marks
 unfolding patchJumpOf patchPlanOf
 patched-row b label i code marks p el em ep = rw (el, em, ep) refl
 
 -- tests
+pub patch-guard-go : {o w : ℕ} {a : Depth} (t : Bool) (r : Refusal) (p : PatchPlan) → patchGuard t r p ≡ Go a w o
+    → (t ≡ true) × (p ≡ Go a w o)
+patch-guard-go true r p e = (refl, e)
+patch-guard-go false r p e = (cc, cc)
+
 pub markable-true : (c : Core) (cl ml : ℕ) → markable c cl ml ≡ true → Markable c cl ml
 unfolding markable
 markable-true c cl ml e =
@@ -42,7 +49,8 @@ markable-true c cl ml e =
 
 pub fits-true : (depth place code : ℕ) → fits depth place code ≡ true → (depth ≤ wordMax) × (place ≤ code)
 unfolding fits
-fits-true depth place code e = let p = both (leb depth wordMax) (leb place code) e in (leb-true _ _ (p .0), leb-true _ _ (p .1))
+fits-true depth place code e = let p = both (leb depth wordMax) (leb place code) e in
+    (leb-true _ _ (p .0), leb-true _ _ (p .1))
 
 pub record PatchGoes (c : Core) (m : Mark) (o : ℕ) (a : Depth) (w : ℕ) : Type 0 where
   pub depth : ℕ
@@ -60,9 +68,9 @@ module _ (c : Core) (o w : ℕ) (a : Depth) where
   by-mark m (Target p d) em es e = let z : _≡_ {A = ℕ} 0 1 = cc in absurd (omega arith)
   by-mark m (Patched p d) em es e = let z : _≡_ {A = ℕ} 0 1 = cc in absurd (omega arith)
   by-mark m (Open p d) em es e =
-      let p2 : Plan = Go (revived (c .depth) d) (bits p (c .code)) p in
-      let e1 = guard-go (meets (c .depth) d) DepthsDiffer (guard (near p (c .code)) JumpTooFar p2) e in
-      let e2 = guard-go (near p (c .code)) JumpTooFar p2 (e1 .1) in
+      let p2 : PatchPlan = Go (revived (c .depth) d) (bits p (c .code)) p in
+      let e1 = patch-guard-go (meets (c .depth) d) DepthsDiffer (patchGuard (near p (c .code)) JumpTooFar p2) e in
+      let e2 = patch-guard-go (near p (c .code)) JumpTooFar p2 (e1 .1) in
       let q : Go (revived (c .depth) d) (bits p (c .code)) p ≡ Go a w o = e2 .1 in
       let qo : p ≡ o = cc in
       let f = fits-true d (p + 3) (c .code) es in
@@ -80,13 +88,15 @@ module _ (c : Core) (o w : ℕ) (a : Depth) where
   pub patch-goes : (m : Mark) → markPlanOf m c ≡ Go a w o → PatchGoes c m o a w
   unfolding markPlanOf
   patch-goes m e =
-      let g = guard-go (markSound (c .code) m) Unsound (openPlan m c) e in
+      let g = patch-guard-go (markSound (c .code) m) Unsound (openPlan m c) e in
       by-mark m m refl (g .0) (g .1)
 
   -- what the patch's writing asks for
-  pub patch-writes : (cl i : ℕ) (marks : List ℕ) → Markable c cl (length marks) → markPlanOf (markIn (c .marks) marks i) c ≡ Go a w o
+  pub patch-writes : (cl i : ℕ) (marks : List ℕ) → Markable c cl (length marks)
+      → markPlanOf (markIn (c .marks) marks i) c ≡ Go a w o
       → (o + 3 ≤ cl) × (i < length marks / markCells)
   patch-writes cl i marks ok e =
       let g = patch-goes (markIn (c .marks) marks i) e in
-      let u = mark-used (c .marks) marks i (Open o (g .depth)) (g .mark) (λ n. let z : _≡_ {A = ℕ} 0 1 = cc in omega arith) in
+      let u = mark-used (c .marks) marks i (Open o (g .depth)) (g .mark)
+      (λ n. let z : _≡_ {A = ℕ} 0 1 = cc in omega arith) in
       (omega (arith, g .place, ok .code), omega (arith, u .0, ok .rows))

@@ -1,19 +1,26 @@
--- Marks, and how far a jump goes: document 01, "Lent tables" (marks), "Displacement", refusals 6, 13, 14 and 19.
+-- Marks, and how far a jump goes: document 01, "Lent tables" (marks), "Displacement", refusals 6, 13, 14, 17 and 19,
+-- and "A live `emit_jump` takes one mark, and so does a live `current_jump_target`".
 -- Assumes nothing.
-use mathlib.Core.Bool.{Bool, true, _&&_}
+use mathlib.Core.Bool.{_&&_, Bool, true, false, _||_}
 use mathlib.Core.List.{List, [], _∷_}
-use Prim.Native.Nat.{ℕ, _+_, _-_, _*_, _/_, _%_, _≤_}
-use lib.Dec.{leb, ltb, eqb}
-use lib.ListN.{getD}
+use Prim.Native.Nat.{ℕ, _+_, _*_, _-_, _%_, zero, suc}
+use lib.Dec.{leb, eqb, ltb}
+use lib.ListN.{length, getD}
 use Rattle.op.specs.Choice.{pick}
+use Rattle.op.specs.declared.Refusal.the-variants.{Full, Unsound}
+use Rattle.op.specs.declared.Table.the-variants.{Marks}
+use Rattle.builder.specs.declared.Builder.{Builder}
 use Rattle.builder.specs.declared.Core.{Core}
 use Rattle.builder.specs.declared.Depth.{Depth}
 use Rattle.builder.specs.declared.Depth.the-variants.{Dead, Live}
 use Rattle.builder.specs.declared.JumpTarget.{JumpTarget}
 use Rattle.builder.specs.declared.JumpTarget.the-variants as T
-use Rattle.builder.specs.declared.Mark.{Mark}
-use Rattle.builder.specs.declared.Mark.the-variants.{Absent, Open, Patched, Target}
-use Rattle.builder.specs.Tables.{codeLimit, markCells, wordMax, jumpSize, rowsIn}
+use Rattle.builder.specs.declared.Targeted.{Targeted}
+use Rattle.builder.specs.declared.Targeted.the-variants as G
+use Rattle.builder.specs.declared.marks.Mark.{Mark}
+use Rattle.builder.specs.declared.marks.Mark.the-variants.{Absent, Open, Patched, Target}
+use Rattle.builder.specs.Tables.{codeLimit, jumpSize, markCells, put, rowFree, rowsIn, wordMax}
+use Rattle.builder.specs.State.{withCore, withMarks}
 
 -- "kind 1 open label, 2 patched label, 3 target"
 abbrev pub openKind : ℕ
@@ -26,62 +33,98 @@ abbrev pub targetKind : ℕ
 targetKind = 3
 
 -- a row's "kind ..; offset; depth; 0"
-abbrev pub markRow : ℕ → ℕ → ℕ → List ℕ
+abbrev pub markRow : (kind offset depth : ℕ) → List ℕ
 markRow kind offset depth = kind ∷ offset ∷ depth ∷ 0 ∷ []
 
-unfoldable pub markOf : ℕ → ℕ → ℕ → Mark
-markOf kind o d =
-    pick (eqb kind openKind) (Open o d)
-    (pick (eqb kind patchedKind) (Patched o d)
-    (pick (eqb kind targetKind) (Target o d) Absent))
+unfoldable pub markOf : (kind offset depth : ℕ) → Mark
+markOf kind offset depth =
+    pick (eqb kind openKind) (Open offset depth)
+    (pick (eqb kind patchedKind) (Patched offset depth)
+    (pick (eqb kind targetKind) (Target offset depth) Absent))
 
--- the mark in row i
-abbrev pub markAt : List ℕ → ℕ → Mark
-markAt marks i = markOf (getD marks (i * markCells) 0) (getD marks (i * markCells + 1) 0) (getD marks (i * markCells + 2) 0)
+-- the mark in a row
+abbrev pub markAt : (marks : List ℕ) (row : ℕ) → Mark
+markAt marks row =
+    markOf (getD marks (row * markCells) 0) (getD marks (row * markCells + 1) 0) (getD marks (row * markCells + 2) 0)
 
 -- the same, of the used rows
-unfoldable pub markIn : ℕ → List ℕ → ℕ → Mark
-markIn rows marks i = pick (ltb i rows) (markAt marks i) Absent
+unfoldable pub markIn : (rows : ℕ) (marks : List ℕ) (row : ℕ) → Mark
+markIn rows marks row = pick (ltb row rows) (markAt marks row) Absent
+
+-- one of two answers: for a target's mark, by its offset and depth, or for any other
+abbrev pub ofTarget : {A : Type 0} → Mark → (ℕ → ℕ → A) → A → A
+ofTarget Absent found none = none
+ofTarget (Open offset depth) found none = none
+ofTarget (Patched offset depth) found none = none
+ofTarget (Target offset depth) found none = found offset depth
 
 -- the mark that a target names
-abbrev pub targetMark : JumpTarget → ℕ → List ℕ → Mark
+abbrev pub targetMark : JumpTarget → (rows : ℕ) (marks : List ℕ) → Mark
 targetMark T.Dead rows marks = Absent
-targetMark (T.Row i) rows marks = markIn rows marks i
+targetMark (T.Row row) rows marks = markIn rows marks row
 
 -- a depth up to 65,535, and a place within the code
-unfoldable pub fits : ℕ → ℕ → ℕ → Bool
+unfoldable pub fits : (depth place code : ℕ) → Bool
 fits depth place code = leb depth wordMax && leb place code
 
--- 19, "for the used mark (kinds 1 to 3) that the call names, depth exceeds 65,535, or offset+3 (1, 2) or offset (3) the code"
-abbrev pub markSound : ℕ → Mark → Bool
+-- 19, "for the used mark (kinds 1 to 3) that the call names, depth exceeds 65,535, or offset+3 (1, 2) or offset (3) the
+-- code"
+abbrev pub markSound : (code : ℕ) → Mark → Bool
 markSound code Absent = true
-markSound code (Open o d) = fits d (o + jumpSize) code
-markSound code (Patched o d) = fits d (o + jumpSize) code
-markSound code (Target o d) = fits d o code
+markSound code (Open offset depth) = fits depth (offset + jumpSize) code
+markSound code (Patched offset depth) = fits depth (offset + jumpSize) code
+markSound code (Target offset depth) = fits depth offset code
 
 -- 19 of a call that is lent code and marks, each of so many cells
-unfoldable pub markable : Core → ℕ → ℕ → Bool
-markable c cl ml = leb (c .code) cl && leb (c .code) codeLimit && rowsIn markCells (c .marks) ml
+unfoldable pub markable : (core : Core) (code marks : ℕ) → Bool
+markable core code marks =
+    leb (core .code) code && leb (core .code) codeLimit && rowsIn markCells (core .marks) marks
 
-pub record Markable (c : Core) (cl ml : ℕ) : Type 0 where
-  pub code : c .code ≤ cl
-  pub limit : c .code ≤ codeLimit
-  pub rows : c .marks ≤ ml / markCells
-
--- "Displacement = target - opcode offset - 3, in -32,768 to 32,767", from a jump at o to t
-unfoldable pub near : ℕ → ℕ → Bool
-near o t = leb (o + jumpSize) (t + 32768) && leb t (o + jumpSize + 32767)
+-- "Displacement = target - opcode offset - 3, in -32,768 to 32,767"
+unfoldable pub near : (offset target : ℕ) → Bool
+near offset target = leb (offset + jumpSize) (target + 32768) && leb target (offset + jumpSize + 32767)
 
 -- its 16 bits, two's complement
-unfoldable pub bits : ℕ → ℕ → ℕ
-bits o t = (t + 65536 - (o + jumpSize)) % 65536
+unfoldable pub bits : (offset target : ℕ) → ℕ
+bits offset target = (target + 65536 - (offset + jumpSize)) % 65536
 
 -- 11 of a patch, "a jump meets another depth": dead code has none
-abbrev pub meets : Depth → ℕ → Bool
-meets Dead d = true
-meets (Live e) d = eqb e d
+abbrev pub meets : (here : Depth) (depth : ℕ) → Bool
+meets Dead depth = true
+meets (Live here) depth = eqb here depth
 
 -- a label's depth revives dead code, and is never written over live code's
-abbrev pub revived : Depth → ℕ → Depth
-revived Dead d = Live d
-revived (Live e) d = Live e
+abbrev pub revived : (here : Depth) (depth : ℕ) → Depth
+revived Dead depth = Live depth
+revived (Live here) depth = Live here
+
+-- the answer, and the marks as the call leaves them
+pub record TargetOutcome : Type 0 where
+  pub answer : Targeted
+  pub marks : List ℕ
+
+abbrev pub targetOutcome : (answer : Targeted) (marks : List ℕ) → TargetOutcome
+targetOutcome answer marks = record { answer = answer; marks = marks }
+
+-- 18, then a target's mark at the used end, with the offset and the depth here
+abbrev pub targetAt : Depth → (builder : Builder) (marks : List ℕ) → TargetOutcome
+targetAt Dead builder marks = targetOutcome (G.Made builder T.Dead) marks
+targetAt (Live here) builder marks =
+    let core = builder .core in
+    pick (rowFree markCells (core .marks) (length marks))
+    (targetOutcome
+    (G.Made (withCore builder (withMarks core (core .marks + 1))) (T.Row (core .marks)))
+    (put (core .marks * markCells) (markRow targetKind (core .code) here) marks))
+    (targetOutcome (G.Refused (Full Marks)) marks)
+
+-- "Others, dead or live: 19, their own refusals, 18"; dead, nothing is wanted
+unfoldable pub targetOf : (builder : Builder) (marks : List ℕ) → TargetOutcome
+targetOf builder marks =
+    pick (leb (builder .core .code) codeLimit && rowsIn markCells (builder .core .marks) (length marks))
+    (targetAt (builder .core .depth) builder marks)
+    (targetOutcome (G.Refused Unsound) marks)
+
+-- 17, "an open label": whether one of the first marks is
+unfoldable pub anyOpen : (rows : ℕ) (marks : List ℕ) → Bool
+anyOpen zero marks = false
+anyOpen (suc row) marks = anyOpen row marks || eqb (getD marks (row * markCells) 0) openKind

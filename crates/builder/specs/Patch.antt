@@ -1,62 +1,59 @@
 -- The model of `patch_jump`: document 01, "`patch_jump`: 19, Dead (accepted, no change), 13, 14, 11, 6".
 -- Assumes nothing.
-use mathlib.Core.Path.{_≡_}
+use mathlib.Core.Bool.{Bool, true, false}
 use mathlib.Core.List.{List}
 use Prim.Native.Nat.{ℕ, _+_, _*_}
 use lib.ListN.{length, set}
+use Rattle.op.specs.declared.Refusal.{Refusal}
 use Rattle.op.specs.declared.Refusal.the-variants.{JumpTooFar, DepthsDiffer, NoSuchMark, AlreadyPatched, Unsound}
 use Rattle.code.specs.Bytes.{wordBytes}
 use Rattle.builder.specs.declared.Answer.{Answer}
 use Rattle.builder.specs.declared.Answer.the-variants.{Accepted, Refused}
 use Rattle.builder.specs.declared.Builder.{Builder}
 use Rattle.builder.specs.declared.Core.{Core}
-use Rattle.builder.specs.declared.Depth.{Depth}
 use Rattle.builder.specs.declared.JumpLabel.{JumpLabel}
 use Rattle.builder.specs.declared.JumpLabel.the-variants as L
-use Rattle.builder.specs.declared.Mark.{Mark}
-use Rattle.builder.specs.declared.Mark.the-variants.{Absent, Open, Patched, Target}
-use Rattle.builder.specs.declared.Plan.{Plan}
-use Rattle.builder.specs.declared.Plan.the-variants.{Idle, Refuse, Go}
+use Rattle.builder.specs.declared.marks.Mark.{Mark}
+use Rattle.builder.specs.declared.marks.Mark.the-variants.{Absent, Open, Patched, Target}
+use Rattle.builder.specs.declared.patch.PatchPlan.{PatchPlan}
+use Rattle.builder.specs.declared.patch.PatchPlan.the-variants.{Idle, Refuse, Go}
 use Rattle.builder.specs.Tables.{markCells, put}
-use Rattle.builder.specs.Plan.{guard}
-use Rattle.builder.specs.Emit.{withCore}
-use Rattle.builder.specs.Marks.{patchedKind, markIn, markSound, markable, near, bits, meets, revived}
+use Rattle.builder.specs.State.{withCore, withDepth}
+use Rattle.builder.specs.Marks.{bits, markIn, markSound, markable, meets, near, patchedKind, revived}
+
+-- go on where the test holds, else refuse
+abbrev pub patchGuard : Bool → Refusal → PatchPlan → PatchPlan
+patchGuard true refusal plan = plan
+patchGuard false refusal plan = Refuse refusal
 
 -- 13, 14, 11, 6
-abbrev pub openPlan : Mark → Core → Plan
-openPlan Absent c = Refuse NoSuchMark
-openPlan (Target o d) c = Refuse NoSuchMark
-openPlan (Patched o d) c = Refuse AlreadyPatched
-openPlan (Open o d) c =
-    guard (meets (c .depth) d) DepthsDiffer
-    (guard (near o (c .code)) JumpTooFar
-    (Go (revived (c .depth) d) (bits o (c .code)) o))
+abbrev pub openPlan : (mark : Mark) (core : Core) → PatchPlan
+openPlan Absent core = Refuse NoSuchMark
+openPlan (Target offset depth) core = Refuse NoSuchMark
+openPlan (Patched offset depth) core = Refuse AlreadyPatched
+openPlan (Open offset depth) core =
+    patchGuard (meets (core .depth) depth) DepthsDiffer
+    (patchGuard (near offset (core .code)) JumpTooFar
+    (Go (revived (core .depth) depth) (bits offset (core .code)) offset))
 
 -- 19 of the mark
-unfoldable pub markPlanOf : Mark → Core → Plan
-markPlanOf m c = guard (markSound (c .code) m) Unsound (openPlan m c)
+unfoldable pub markPlanOf : (mark : Mark) (core : Core) → PatchPlan
+markPlanOf mark core = patchGuard (markSound (core .code) mark) Unsound (openPlan mark core)
 
-abbrev pub labelPlan : JumpLabel → Core → List ℕ → Plan
-labelPlan L.Dead c marks = Idle
-labelPlan (L.Row i) c marks = markPlanOf (markIn (c .marks) marks i) c
+-- Dead (accepted, no change)
+abbrev pub labelPlan : (label : JumpLabel) (core : Core) (marks : List ℕ) → PatchPlan
+labelPlan L.Dead core marks = Idle
+labelPlan (L.Row row) core marks = markPlanOf (markIn (core .marks) marks row) core
 
-unfoldable pub patchPlanOf : Core → JumpLabel → ℕ → List ℕ → Plan
-patchPlanOf c label cl marks = guard (markable c cl (length marks)) Unsound (labelPlan label c marks)
+-- 19 of the counts
+unfoldable pub patchPlanOf : (core : Core) (label : JumpLabel) (code : ℕ) (marks : List ℕ) → PatchPlan
+patchPlanOf core label code marks =
+    patchGuard (markable core code (length marks)) Unsound (labelPlan label core marks)
 
 -- a label's row
 abbrev pub labelRow : JumpLabel → ℕ
 labelRow L.Dead = 0
-labelRow (L.Row i) = i
-
--- the same core with another depth
-abbrev pub withDepth : Core → Depth → Core
-withDepth c d = record { code = c .code; locations = c .locations; marks = c .marks; depth = d }
-
--- what writing a patch leaves
-pub record PatchCommitted (c : Core) (i offset w : ℕ) (after : Depth) (code marks : List ℕ) (next : Core) (code′ marks′ : List ℕ) : Type 0 where
-  pub state : next ≡ withDepth c after
-  pub bytes : code′ ≡ put (offset + 1) (wordBytes w) code
-  pub kind : marks′ ≡ set marks (i * markCells) patchedKind
+labelRow (L.Row row) = row
 
 -- the answer, and code and marks as the call leaves them
 pub record PatchOutcome : Type 0 where
@@ -64,17 +61,18 @@ pub record PatchOutcome : Type 0 where
   pub code : List ℕ
   pub marks : List ℕ
 
-abbrev pub patchOutcome : Answer → List ℕ → List ℕ → PatchOutcome
-patchOutcome r code marks = record { answer = r; code = code; marks = marks }
+abbrev pub patchOutcome : (answer : Answer) (code marks : List ℕ) → PatchOutcome
+patchOutcome answer code marks = record { answer = answer; code = code; marks = marks }
 
 -- "A patch writes it at offset+1 and +2 and no other byte", "Patching records kind 2"
-abbrev pub commitPatch : Plan → Builder → JumpLabel → List ℕ → List ℕ → PatchOutcome
-commitPatch Idle b label code marks = patchOutcome (Accepted b) code marks
-commitPatch (Refuse r) b label code marks = patchOutcome (Refused r) code marks
-commitPatch (Go after w offset) b label code marks =
-    patchOutcome (Accepted (withCore b (withDepth (b .core) after)))
-    (put (offset + 1) (wordBytes w) code)
+abbrev pub commitPatch : PatchPlan → (builder : Builder) (label : JumpLabel) (code marks : List ℕ) → PatchOutcome
+commitPatch Idle builder label code marks = patchOutcome (Accepted builder) code marks
+commitPatch (Refuse refusal) builder label code marks = patchOutcome (Refused refusal) code marks
+commitPatch (Go after word offset) builder label code marks =
+    patchOutcome (Accepted (withCore builder (withDepth (builder .core) after)))
+    (put (offset + 1) (wordBytes word) code)
     (set marks (labelRow label * markCells) patchedKind)
 
-unfoldable pub patchJumpOf : Builder → JumpLabel → List ℕ → List ℕ → PatchOutcome
-patchJumpOf b label code marks = commitPatch (patchPlanOf (b .core) label (length code) marks) b label code marks
+unfoldable pub patchJumpOf : (builder : Builder) (label : JumpLabel) (code marks : List ℕ) → PatchOutcome
+patchJumpOf builder label code marks =
+    commitPatch (patchPlanOf (builder .core) label (length code) marks) builder label code marks

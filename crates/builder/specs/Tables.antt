@@ -34,14 +34,14 @@ wordMax = 65535
 abbrev pub jumpSize : ℕ
 jumpSize = 3
 
--- 19, "a count exceeds its lent table": n rows of w cells are within so many cells
-abbrev pub rowsIn : ℕ → ℕ → ℕ → Bool
-rowsIn w n cells = leb n (cells / w)
+-- 19, "a count exceeds its lent table": so many rows of a width are within so many cells
+abbrev pub rowsIn : (width rows cells : ℕ) → Bool
+rowsIn width rows cells = leb rows (cells / width)
 
--- 18, "more rows .. wanted than are left": there is room for a row behind n
-abbrev pub rowFree : ℕ → ℕ → ℕ → Bool
-rowFree w n cells = ltb n (cells / w)
+-- 18, "more rows .. wanted than are left": there is room for one row more
+abbrev pub rowFree : (width rows cells : ℕ) → Bool
+rowFree width rows cells = ltb rows (cells / width)
 
--- l with xs from a place on, and nothing else changed
-unfoldable pub put : ℕ → List ℕ → List ℕ → List ℕ
-put at xs l = take at l ++ xs ++ drop (at + length xs) l
+-- a table with new cells from a place on, and nothing else changed
+unfoldable pub put : (at : ℕ) (new table : List ℕ) → List ℕ
+put at new table = take at table ++ new ++ drop (at + length new) table

@@ -1,10 +1,21 @@
-// The public calls, in the order of builder.rs. Each decides before it writes.
-// The modules behind hold what they share.
+// The public calls of CodeBuilder, in the order of builder.rs and with its names. Each decides before it writes, and
+// what it is told is not trusted. A call's comment says what it does, then which of document 01's refusals it can give,
+// in their order. "Then, live," is where dead code is accepted and nothing changes; 18 names the first table without
+// room, of code, locations, marks. The modules behind hold what the calls share, each what its name says.
 ghost use Prim.Native.Nat.{_%_};
-ghost use Rattle.builder.specs.Calls.{addConstOf, addExceptionOf, addedKept, buildOf, deadOf, kept, newOf, positionOf, regionOf, registerNameOf, registerNamesOf, withLocation};
-ghost use Rattle.builder.specs.Emit.{CallAttrKw, CallBuiltinFunction, CallBuiltinType, CallFunctionKw, LoadGlobalCallable, emitNamed, emitOf, loadOp, loadOperand, outcome, storeOp, storeOperand};
-ghost use Rattle.builder.specs.Jumps.{emitJumpOf, emitJumpToOf, jumpOutcome, targetOf, targetOutcome};
+ghost use Rattle.builder.specs.State.{deadOf, kept};
+ghost use Rattle.builder.specs.Locations.{positionOf, withLocation};
+ghost use Rattle.builder.specs.Regions.{newOf, regionOf};
+ghost use Rattle.builder.specs.Constants.{addConstOf, addedKept};
+ghost use Rattle.builder.specs.Exceptions.{addExceptionOf};
+ghost use Rattle.builder.specs.Names.{buildOf, registerNameOf, registerNamesOf};
+ghost use Rattle.builder.specs.Emission.{emitNamed, emitOf, loadOp, loadOperand, outcome};
+ghost use Rattle.builder.specs.Emission.{storeOp, storeOperand};
+ghost use Rattle.builder.specs.Marks.{targetOf, targetOutcome};
+ghost use Rattle.builder.specs.Forward.{emitJumpOf, jumpOutcome};
+ghost use Rattle.builder.specs.Back.{emitJumpToOf};
 ghost use Rattle.builder.specs.Patch.{patchJumpOf, patchOutcome};
+ghost use Rattle.op.specs.Chosen.{CallAttrKw, CallBuiltinFunction, CallBuiltinType, CallFunctionKw, LoadGlobalCallable};
 ghost use Rattle.op.specs.Opcodes.{RaiseUnboundLocal};
 ghost use lib.ListN.{length};
 ghost use mathlib.Core.List.{[]};
@@ -20,22 +31,22 @@ use crate::JumpTarget;
 use crate::Jumped;
 use crate::Location;
 use crate::MARK_CELLS;
-use crate::Plan;
 use crate::START_CELLS;
 use crate::Targeted;
 use crate::WORD_MAX;
-use crate::aiming;
-use crate::emitting;
-use crate::entries;
-use crate::jumping;
-use crate::jumps;
-use crate::marking;
+use crate::back;
+use crate::constants;
+use crate::emission;
+use crate::exceptions;
+use crate::forward;
+use crate::marks;
 use crate::names;
-use crate::narrowing;
-use crate::patching;
+use crate::patch;
+use crate::patch::PatchPlan;
+use crate::plan::Plan;
 use crate::regions;
-use crate::states;
-use crate::store;
+use crate::state;
+use crate::tables;
 use code::CodeRange;
 use code::Focus;
 use code::HandlerKind;
@@ -45,7 +56,8 @@ use op::Table;
 use op::opcodes;
 
 impl Builder {
-    // A new builder, told dead, or live at a depth: its start.
+    // Makes a builder with nothing in it, told that it is dead, or live at a depth. Told live, it stores its start.
+    // Refuses 18.
     pub fn new(told: Depth, starts: &mut [u32]) -> Answer
         ensures { λ r. ⌜ kept r (now (starts .exit)) ≡ newOf told (now (starts .entry)) ⌝ }
     {
@@ -55,11 +67,12 @@ impl Builder {
         if starts.len() / START_CELLS <= 0 {
             return Answer::Refused(Refusal::Full(Table::Starts));
         }
-        store::row2(starts, 0, d as u32);
+        tables::row2(starts, 0, d as u32);
         Answer::Accepted(regions::fresh_at(Depth::Live(d), 1))
     }
 
     // Sets the source location of the instructions to come.
+    // Never refuses.
     pub fn set_location(self, range: CodeRange, focus: Focus) -> Builder
         ensures { λ r. ⌜ r ≡ withLocation self (Location.Set range focus) ⌝ }
     {
@@ -74,26 +87,35 @@ impl Builder {
         }
     }
 
-    // Emits an instruction without an operand.
+    // Emits an instruction without an operand, and follows the depth.
+    // Refuses 19, 1, then, live, 2, 4, 5, 18.
     pub fn emit(self, opcode: u8, code: &mut [u8], locations: &mut [u32]) -> Answer
-        ensures { λ r. ⌜ outcome r (now (code .exit)) (now (locations .exit)) ≡ emitOf self opcode Operand.None [] (now (code .entry)) (now (locations .entry)) ⌝ }
+        ensures { λ r. ⌜ outcome r (now (code .exit)) (now (locations .exit))
+            ≡ emitOf self opcode Operand.None [] (now (code .entry)) (now (locations .entry)) ⌝ }
     {
-        emitting::emit_with_operand(self, opcode, 0, Operand::None, code, locations)
+        emission::emit_with_operand(self, opcode, 0, Operand::None, code, locations)
     }
 
+    // Emits an instruction with a u8.
+    // Refuses 19, 1, then, live, 2, 4, 5, 18.
     pub fn emit_u8(self, opcode: u8, operand: u8, code: &mut [u8], locations: &mut [u32]) -> Answer
-        ensures { λ r. ⌜ outcome r (now (code .exit)) (now (locations .exit)) ≡ emitOf self opcode (Operand.U8 operand) [] (now (code .entry)) (now (locations .entry)) ⌝ }
+        ensures { λ r. ⌜ outcome r (now (code .exit)) (now (locations .exit))
+            ≡ emitOf self opcode (Operand.U8 operand) [] (now (code .entry)) (now (locations .entry)) ⌝ }
     {
-        emitting::emit_with_operand(self, opcode, 0, Operand::U8(operand), code, locations)
+        emission::emit_with_operand(self, opcode, 0, Operand::U8(operand), code, locations)
     }
 
+    // Emits an instruction with an i8.
+    // Refuses 19, 1, then, live, 2, 5, 18.
     pub fn emit_i8(self, opcode: u8, operand: i8, code: &mut [u8], locations: &mut [u32]) -> Answer
-        ensures { λ r. ⌜ outcome r (now (code .exit)) (now (locations .exit)) ≡ emitOf self opcode (Operand.I8 operand) [] (now (code .entry)) (now (locations .entry)) ⌝ }
+        ensures { λ r. ⌜ outcome r (now (code .exit)) (now (locations .exit))
+            ≡ emitOf self opcode (Operand.I8 operand) [] (now (code .entry)) (now (locations .entry)) ⌝ }
     {
-        emitting::emit_with_operand(self, opcode, 0, Operand::I8(operand), code, locations)
+        emission::emit_with_operand(self, opcode, 0, Operand::I8(operand), code, locations)
     }
 
-    // Used for UnpackEx: the counts before and after.
+    // Emits an instruction with two u8: UnpackEx, with the counts before and after.
+    // Refuses 19, 1, then, live, 2, 4, 5, 18.
     pub fn emit_u8_u8(
         self,
         opcode: u8,
@@ -102,9 +124,10 @@ impl Builder {
         code: &mut [u8],
         locations: &mut [u32],
     ) -> Answer
-        ensures { λ r. ⌜ outcome r (now (code .exit)) (now (locations .exit)) ≡ emitOf self opcode (Operand.U8U8 operand1 operand2) [] (now (code .entry)) (now (locations .entry)) ⌝ }
+        ensures { λ r. ⌜ outcome r (now (code .exit)) (now (locations .exit))
+            ≡ emitOf self opcode (Operand.U8U8 operand1 operand2) [] (now (code .entry)) (now (locations .entry)) ⌝ }
     {
-        emitting::emit_with_operand(
+        emission::emit_with_operand(
             self,
             opcode,
             0,
@@ -114,6 +137,8 @@ impl Builder {
         )
     }
 
+    // Emits an instruction with a u16.
+    // Refuses 19, 1, then, live, 2, 4, 5, 18.
     pub fn emit_u16(
         self,
         opcode: u8,
@@ -121,12 +146,14 @@ impl Builder {
         code: &mut [u8],
         locations: &mut [u32],
     ) -> Answer
-        ensures { λ r. ⌜ outcome r (now (code .exit)) (now (locations .exit)) ≡ emitOf self opcode (Operand.U16 operand) [] (now (code .entry)) (now (locations .entry)) ⌝ }
+        ensures { λ r. ⌜ outcome r (now (code .exit)) (now (locations .exit))
+            ≡ emitOf self opcode (Operand.U16 operand) [] (now (code .entry)) (now (locations .entry)) ⌝ }
     {
-        emitting::emit_with_operand(self, opcode, 0, Operand::U16(operand), code, locations)
+        emission::emit_with_operand(self, opcode, 0, Operand::U16(operand), code, locations)
     }
 
-    // Used for LoadSubmodule: the attribute and the dotted path.
+    // Emits an instruction with two u16: LoadSubmodule, with the attribute and the dotted path.
+    // Refuses 19, 1, then, live, 2, 5, 18.
     pub fn emit_u16_u16(
         self,
         opcode: u8,
@@ -135,9 +162,10 @@ impl Builder {
         code: &mut [u8],
         locations: &mut [u32],
     ) -> Answer
-        ensures { λ r. ⌜ outcome r (now (code .exit)) (now (locations .exit)) ≡ emitOf self opcode (Operand.U16U16 operand1 operand2) [] (now (code .entry)) (now (locations .entry)) ⌝ }
+        ensures { λ r. ⌜ outcome r (now (code .exit)) (now (locations .exit))
+            ≡ emitOf self opcode (Operand.U16U16 operand1 operand2) [] (now (code .entry)) (now (locations .entry)) ⌝ }
     {
-        emitting::emit_with_operand(
+        emission::emit_with_operand(
             self,
             opcode,
             0,
@@ -147,7 +175,8 @@ impl Builder {
         )
     }
 
-    // Used for MakeFunction, CallAttr, CallAttrExtended.
+    // Emits an instruction with a u16 and a u8: MakeFunction, CallAttr, CallAttrExtended.
+    // Refuses 19, 1, then, live, 2, 4, 5, 18.
     pub fn emit_u16_u8(
         self,
         opcode: u8,
@@ -156,9 +185,10 @@ impl Builder {
         code: &mut [u8],
         locations: &mut [u32],
     ) -> Answer
-        ensures { λ r. ⌜ outcome r (now (code .exit)) (now (locations .exit)) ≡ emitOf self opcode (Operand.U16U8 operand1 operand2) [] (now (code .entry)) (now (locations .entry)) ⌝ }
+        ensures { λ r. ⌜ outcome r (now (code .exit)) (now (locations .exit))
+            ≡ emitOf self opcode (Operand.U16U8 operand1 operand2) [] (now (code .entry)) (now (locations .entry)) ⌝ }
     {
-        emitting::emit_with_operand(
+        emission::emit_with_operand(
             self,
             opcode,
             0,
@@ -168,7 +198,8 @@ impl Builder {
         )
     }
 
-    // Used for MakeClosure: the function, the counts of defaults and cells.
+    // Emits an instruction with a u16 and two u8: MakeClosure, with the function and the counts of defaults and cells.
+    // Refuses 19, 1, then, live, 2, 4, 5, 18.
     pub fn emit_u16_u8_u8(
         self,
         opcode: u8,
@@ -178,9 +209,11 @@ impl Builder {
         code: &mut [u8],
         locations: &mut [u32],
     ) -> Answer
-        ensures { λ r. ⌜ outcome r (now (code .exit)) (now (locations .exit)) ≡ emitOf self opcode (Operand.U16U8U8 operand1 operand2 operand3) [] (now (code .entry)) (now (locations .entry)) ⌝ }
+        ensures { λ r. ⌜ outcome r (now (code .exit)) (now (locations .exit))
+            ≡ emitOf self opcode (Operand.U16U8U8 operand1 operand2 operand3) [] (now (code .entry))
+            (now (locations .entry)) ⌝ }
     {
-        emitting::emit_with_operand(
+        emission::emit_with_operand(
             self,
             opcode,
             0,
@@ -190,6 +223,8 @@ impl Builder {
         )
     }
 
+    // Emits CallBuiltinFunction, with the function's number and the count of arguments.
+    // Refuses 19, then, live, 4, 5, 18.
     pub fn emit_call_builtin_function(
         self,
         builtin: u8,
@@ -197,7 +232,9 @@ impl Builder {
         code: &mut [u8],
         locations: &mut [u32],
     ) -> Answer
-        ensures { λ r. ⌜ outcome r (now (code .exit)) (now (locations .exit)) ≡ emitOf self CallBuiltinFunction (Operand.U8U8 builtin count) [] (now (code .entry)) (now (locations .entry)) ⌝ }
+        ensures { λ r. ⌜ outcome r (now (code .exit)) (now (locations .exit))
+            ≡ emitOf self CallBuiltinFunction (Operand.U8U8 builtin count) [] (now (code .entry))
+            (now (locations .entry)) ⌝ }
     {
         self.emit_u8_u8(
             opcodes::CALL_BUILTIN_FUNCTION,
@@ -208,6 +245,8 @@ impl Builder {
         )
     }
 
+    // Emits CallBuiltinType, with the type's number and the count of arguments.
+    // Refuses 19, then, live, 4, 5, 18.
     pub fn emit_call_builtin_type(
         self,
         builtin: u8,
@@ -215,12 +254,15 @@ impl Builder {
         code: &mut [u8],
         locations: &mut [u32],
     ) -> Answer
-        ensures { λ r. ⌜ outcome r (now (code .exit)) (now (locations .exit)) ≡ emitOf self CallBuiltinType (Operand.U8U8 builtin count) [] (now (code .entry)) (now (locations .entry)) ⌝ }
+        ensures { λ r. ⌜ outcome r (now (code .exit)) (now (locations .exit))
+            ≡ emitOf self CallBuiltinType (Operand.U8U8 builtin count) [] (now (code .entry))
+            (now (locations .entry)) ⌝ }
     {
         self.emit_u8_u8(opcodes::CALL_BUILTIN_TYPE, builtin, count, code, locations)
     }
 
-    // Emits CallFunctionKw with its keyword names.
+    // Emits CallFunctionKw with its keyword names, in the order in which their values were pushed.
+    // Refuses 19, then, live, 7, 4, 18.
     pub fn emit_call_function_kw(
         self,
         positional: u8,
@@ -228,10 +270,12 @@ impl Builder {
         code: &mut [u8],
         locations: &mut [u32],
     ) -> Answer
-        ensures { λ r. ⌜ outcome r (now (code .exit)) (now (locations .exit)) ≡ emitOf self CallFunctionKw (Operand.CallKw positional (length (now (kwnames .entry)) % 256)) (now (kwnames .entry)) (now (code .entry)) (now (locations .entry)) ⌝ }
+        ensures { λ r. ⌜ outcome r (now (code .exit)) (now (locations .exit))
+            ≡ emitOf self CallFunctionKw (Operand.CallKw positional (length (now (kwnames .entry)) % 256))
+            (now (kwnames .entry)) (now (code .entry)) (now (locations .entry)) ⌝ }
     {
-        let names = narrowing::count_byte(kwnames.len());
-        emitting::emit_with_names(
+        let names = names::count_byte(kwnames.len());
+        emission::emit_with_names(
             self,
             opcodes::CALL_FUNCTION_KW,
             Operand::CallKw { positional, names },
@@ -241,7 +285,8 @@ impl Builder {
         )
     }
 
-    // Emits CallAttrKw with its keyword names.
+    // Emits CallAttrKw with its keyword names, in the order in which their values were pushed.
+    // Refuses 19, then, live, 7, 4, 18.
     pub fn emit_call_attr_kw(
         self,
         attribute: u16,
@@ -250,10 +295,12 @@ impl Builder {
         code: &mut [u8],
         locations: &mut [u32],
     ) -> Answer
-        ensures { λ r. ⌜ outcome r (now (code .exit)) (now (locations .exit)) ≡ emitOf self CallAttrKw (Operand.CallAttrKw attribute positional (length (now (kwnames .entry)) % 256)) (now (kwnames .entry)) (now (code .entry)) (now (locations .entry)) ⌝ }
+        ensures { λ r. ⌜ outcome r (now (code .exit)) (now (locations .exit))
+            ≡ emitOf self CallAttrKw (Operand.CallAttrKw attribute positional (length (now (kwnames .entry)) % 256))
+            (now (kwnames .entry)) (now (code .entry)) (now (locations .entry)) ⌝ }
     {
-        let names = narrowing::count_byte(kwnames.len());
-        emitting::emit_with_names(
+        let names = names::count_byte(kwnames.len());
+        emission::emit_with_names(
             self,
             opcodes::CALL_ATTR_KW,
             Operand::CallAttrKw {
@@ -267,7 +314,9 @@ impl Builder {
         )
     }
 
-    // Emits a jump whose target is not known yet, and answers the label to patch later.
+    // Emits a forward jump, whose target is not known yet, and answers the label to patch later. After Jump the code is
+    // dead; the other jumps go on. In dead code the label is Dead.
+    // Refuses 19, 1, then, live, 3, 5 of the taken depth, 4, 5, 18.
     pub fn emit_jump(
         self,
         opcode: u8,
@@ -275,11 +324,12 @@ impl Builder {
         locations: &mut [u32],
         marks: &mut [u32],
     ) -> Jumped
-        ensures { λ r. ⌜ jumpOutcome r (now (code .exit)) (now (locations .exit)) (now (marks .exit)) ≡ emitJumpOf self opcode (now (code .entry)) (now (locations .entry)) (now (marks .entry)) ⌝ }
+        ensures { λ r. ⌜ jumpOutcome r (now (code .exit)) (now (locations .exit)) (now (marks .exit))
+            ≡ emitJumpOf self opcode (now (code .entry)) (now (locations .entry)) (now (marks .entry)) ⌝ }
     {
         let core = self.core;
         let location = self.location;
-        let plan = jumping::decide_jump(
+        let plan = forward::decide_jump(
             core,
             location,
             opcode,
@@ -292,7 +342,7 @@ impl Builder {
             Plan::Refuse(refusal) => Jumped::Refused(refusal),
             Plan::Go(after, t, size) => {
                 let row = core.marks;
-                let next = jumping::commit_jump(
+                let next = forward::commit_jump(
                     core,
                     location,
                     opcode,
@@ -303,35 +353,38 @@ impl Builder {
                     locations,
                     marks,
                 );
-                Jumped::Made(states::with_core(self, next), JumpLabel::Row(row))
+                Jumped::Made(state::with_core(self, next), JumpLabel::Row(row))
             }
         }
     }
 
-    // Has a label's jump go to where the code now ends. Dead code is live again at the label's depth.
+    // Has a forward jump go to where the code now ends. Dead code is live again, at the label's depth.
+    // Refuses 19, then, of a label that is not Dead, 13, 14, 11, 6.
     pub fn patch_jump(self, label: JumpLabel, code: &mut [u8], marks: &mut [u32]) -> Answer
-        ensures { λ r. ⌜ patchOutcome r (now (code .exit)) (now (marks .exit)) ≡ patchJumpOf self label (now (code .entry)) (now (marks .entry)) ⌝ }
+        ensures { λ r. ⌜ patchOutcome r (now (code .exit)) (now (marks .exit))
+            ≡ patchJumpOf self label (now (code .entry)) (now (marks .entry)) ⌝ }
     {
         let core = self.core;
-        if !marking::counts_sound(core, code.len(), marks.len()) {
+        if !marks::counts_sound(core, code.len(), marks.len()) {
             return Answer::Refused(Refusal::Unsound);
         }
         let JumpLabel::Row(i) = label else {
             return Answer::Accepted(self);
         };
-        let mark = marking::mark_in(core.marks, marks, i);
-        let plan = patching::decide_mark(mark, core);
+        let mark = marks::mark_in(core.marks, marks, i);
+        let plan = patch::decide_mark(mark, core);
         match plan {
-            Plan::Idle => Answer::Accepted(self),
-            Plan::Refuse(refusal) => Answer::Refused(refusal),
-            Plan::Go(after, w, offset) => {
-                let next = patching::commit_patch(core, i, offset, w, after, code, marks);
-                Answer::Accepted(states::with_core(self, next))
+            PatchPlan::Idle => Answer::Accepted(self),
+            PatchPlan::Refuse(refusal) => Answer::Refused(refusal),
+            PatchPlan::Go(after, w, offset) => {
+                let next = patch::commit_patch(core, i, offset, w, after, code, marks);
+                Answer::Accepted(state::with_core(self, next))
             }
         }
     }
 
-    // Emits a jump to a known target. In dead code it does nothing, whatever the target.
+    // Emits a jump back to a known target.
+    // Refuses 19, 1, then, live, 3, 5 of the taken depth, 12 or 13, 11, 6, 4, 5, 18.
     pub fn emit_jump_to(
         self,
         opcode: u8,
@@ -340,19 +393,21 @@ impl Builder {
         locations: &mut [u32],
         marks: &[u32],
     ) -> Answer
-        ensures { λ r. ⌜ outcome r (now (code .exit)) (now (locations .exit)) ≡ emitJumpToOf self opcode target (now (code .entry)) (now (locations .entry)) (now (marks .entry)) ⌝ }
+        ensures { λ r. ⌜ outcome r (now (code .exit)) (now (locations .exit))
+            ≡ emitJumpToOf self opcode target (now (code .entry)) (now (locations .entry)) (now (marks .entry)) ⌝ }
     {
         let core = self.core;
         let location = self.location;
         let JumpTarget::Row(row) = target else {
-            let refused = aiming::jump_nowhere(core, location, opcode, code, locations, marks);
-            return states::answer_by(self, refused);
+            let refused = back::jump_nowhere(core, location, opcode, code, locations, marks);
+            return state::answer_by(self, refused);
         };
-        let answer = aiming::jump_to_core(core, location, opcode, row, code, locations, marks);
-        states::answer_by(self, answer)
+        let answer = back::jump_to_core(core, location, opcode, row, code, locations, marks);
+        state::answer_by(self, answer)
     }
 
-    // The offset of the next instruction.
+    // Answers where the next instruction will stand.
+    // Never refuses.
     pub fn current_offset(self) -> usize
         ensures { λ r. ⌜ r ≡ self .core .code ⌝ }
     {
@@ -360,7 +415,8 @@ impl Builder {
         core.code
     }
 
-    // The source range here, for diagnostics.
+    // Answers the source range that was set, for diagnostics; 0, 0 where none was.
+    // Never refuses.
     pub fn current_position(self) -> CodeRange
         ensures { λ r. ⌜ r ≡ positionOf (self .location) ⌝ }
     {
@@ -371,7 +427,8 @@ impl Builder {
         }
     }
 
-    // Answers the place and the depth here as a target. In dead code there is none.
+    // Answers the place and the depth here as a target to jump back to. In dead code the target is Dead.
+    // Refuses 19, then, live, 18.
     pub fn current_jump_target(self, marks: &mut [u32]) -> Targeted
         ensures { λ r. ⌜ targetOutcome r (now (marks .exit)) ≡ targetOf self (now (marks .entry)) ⌝ }
     {
@@ -386,10 +443,11 @@ impl Builder {
         let Depth::Live(d) = depth else {
             return Targeted::Made(self, JumpTarget::Dead);
         };
-        jumps::mark_target(self, d, marks)
+        marks::mark_target(self, d, marks)
     }
 
-    // Names the slots 0, 1, .. in one pass, before any other is named.
+    // Names the slots 0, 1, .. in one pass, before any other name.
+    // Refuses 19, 16, 18.
     pub fn register_local_names(self, names: &[u32], table: &mut [u64]) -> Answer
         ensures { λ r. ⌜ kept r (now (table .exit)) ≡ registerNamesOf self (now (names .entry)) (now (table .entry)) ⌝ }
     {
@@ -411,7 +469,8 @@ impl Builder {
         Answer::Accepted(names::with_names(self, names.len()))
     }
 
-    // Names a slot, where it has no name yet.
+    // Names a slot, where it has no name yet: the first name stays.
+    // Refuses 19, 18.
     pub fn register_local_name(self, slot: u16, name: u32, table: &mut [u64]) -> Answer
         ensures { λ r. ⌜ kept r (now (table .exit)) ≡ registerNameOf self slot name (now (table .entry)) ⌝ }
     {
@@ -436,16 +495,19 @@ impl Builder {
     }
 
     // Emits RaiseUnboundLocal with the name that the error reports.
+    // Refuses 19, 8, then, live, 18.
     pub fn emit_raise_unbound_local(
         self,
         name: u32,
         code: &mut [u8],
         locations: &mut [u32],
     ) -> Answer
-        ensures { λ r. ⌜ outcome r (now (code .exit)) (now (locations .exit)) ≡ emitNamed self RaiseUnboundLocal name (Operand.U16 (name % 65536)) [] (now (code .entry)) (now (locations .entry)) ⌝ }
+        ensures { λ r. ⌜ outcome r (now (code .exit)) (now (locations .exit))
+            ≡ emitNamed self RaiseUnboundLocal name (Operand.U16 (name % 65536)) [] (now (code .entry))
+            (now (locations .entry)) ⌝ }
     {
-        let word = narrowing::name_word(name);
-        emitting::emit_with_operand(
+        let word = names::name_word(name);
+        emission::emit_with_operand(
             self,
             opcodes::RAISE_UNBOUND_LOCAL,
             name,
@@ -455,9 +517,11 @@ impl Builder {
         )
     }
 
-    // Emits the shortest load of a slot: slots 0 to 3 have opcodes of their own.
+    // Emits the shortest load of a slot: 0 to 3 have opcodes of their own, then a byte, then a word.
+    // Refuses 19, then, live, 5, 18.
     pub fn emit_load_local(self, slot: u16, code: &mut [u8], locations: &mut [u32]) -> Answer
-        ensures { λ r. ⌜ outcome r (now (code .exit)) (now (locations .exit)) ≡ emitOf self (loadOp slot) (loadOperand slot) [] (now (code .entry)) (now (locations .entry)) ⌝ }
+        ensures { λ r. ⌜ outcome r (now (code .exit)) (now (locations .exit))
+            ≡ emitOf self (loadOp slot) (loadOperand slot) [] (now (code .entry)) (now (locations .entry)) ⌝ }
     {
         if slot <= 3 {
             return self.emit(opcodes::LOAD_LOCAL0 + slot as u8, code, locations);
@@ -468,7 +532,8 @@ impl Builder {
         self.emit_u16(opcodes::LOAD_LOCAL_W, slot, code, locations)
     }
 
-    // Emits LoadGlobalCallable with its slot and name.
+    // Emits LoadGlobalCallable with its slot and its name: global slots are no local slots, so the name goes along.
+    // Refuses 19, 8, then, live, 5, 18.
     pub fn emit_load_global_callable(
         self,
         slot: u16,
@@ -476,10 +541,12 @@ impl Builder {
         code: &mut [u8],
         locations: &mut [u32],
     ) -> Answer
-        ensures { λ r. ⌜ outcome r (now (code .exit)) (now (locations .exit)) ≡ emitNamed self LoadGlobalCallable name (Operand.U16U16 slot (name % 65536)) [] (now (code .entry)) (now (locations .entry)) ⌝ }
+        ensures { λ r. ⌜ outcome r (now (code .exit)) (now (locations .exit))
+            ≡ emitNamed self LoadGlobalCallable name (Operand.U16U16 slot (name % 65536)) [] (now (code .entry))
+            (now (locations .entry)) ⌝ }
     {
-        let word = narrowing::name_word(name);
-        emitting::emit_with_operand(
+        let word = names::name_word(name);
+        emission::emit_with_operand(
             self,
             opcodes::LOAD_GLOBAL_CALLABLE,
             name,
@@ -489,7 +556,8 @@ impl Builder {
         )
     }
 
-    // Emits LoadName, StoreName or DeleteName with its slot, name and flags.
+    // Emits LoadName, StoreName or DeleteName with its slot, its name and its flags.
+    // Refuses 19, 1, 8, then, live, 2, 4, 5, 18.
     pub fn emit_name_op(
         self,
         opcode: u8,
@@ -499,10 +567,12 @@ impl Builder {
         code: &mut [u8],
         locations: &mut [u32],
     ) -> Answer
-        ensures { λ r. ⌜ outcome r (now (code .exit)) (now (locations .exit)) ≡ emitNamed self opcode name (Operand.U16U16U8 slot (name % 65536) flags) [] (now (code .entry)) (now (locations .entry)) ⌝ }
+        ensures { λ r. ⌜ outcome r (now (code .exit)) (now (locations .exit))
+            ≡ emitNamed self opcode name (Operand.U16U16U8 slot (name % 65536) flags) [] (now (code .entry))
+            (now (locations .entry)) ⌝ }
     {
-        let word = narrowing::name_word(name);
-        emitting::emit_with_operand(
+        let word = names::name_word(name);
+        emission::emit_with_operand(
             self,
             opcode,
             name,
@@ -513,8 +583,10 @@ impl Builder {
     }
 
     // Emits the shorter store of a slot. Slots 0 to 3 have no opcodes of their own here.
+    // Refuses 19, then, live, 4, 18.
     pub fn emit_store_local(self, slot: u16, code: &mut [u8], locations: &mut [u32]) -> Answer
-        ensures { λ r. ⌜ outcome r (now (code .exit)) (now (locations .exit)) ≡ emitOf self (storeOp slot) (storeOperand slot) [] (now (code .entry)) (now (locations .entry)) ⌝ }
+        ensures { λ r. ⌜ outcome r (now (code .exit)) (now (locations .exit))
+            ≡ emitOf self (storeOp slot) (storeOperand slot) [] (now (code .entry)) (now (locations .entry)) ⌝ }
     {
         if slot <= 255 {
             return self.emit_u8(opcodes::STORE_LOCAL, slot as u8, code, locations);
@@ -523,6 +595,7 @@ impl Builder {
     }
 
     // Adds a constant, and answers its index.
+    // Refuses 19, 9, 18.
     pub fn add_const(self, value: u64, constants: &mut [u64]) -> Added
         ensures { λ r. ⌜ addedKept r (now (constants .exit)) ≡ addConstOf self value (now (constants .entry)) ⌝ }
     {
@@ -540,11 +613,12 @@ impl Builder {
         if constants.len() <= row {
             return Added::Refused(Refusal::Full(Table::Constants));
         }
-        store::row1(&mut constants[row..], value);
-        Added::Made(entries::with_constants(self, row + 1), row as u16)
+        tables::row1(&mut constants[row..], value);
+        Added::Made(constants::with_constants(self, row + 1), row as u16)
     }
 
-    // Adds an exception handler. Innermost first, for nested blocks.
+    // Adds an exception handler. For nested blocks the innermost comes first.
+    // Refuses 19, 10, 18.
     pub fn add_exception_entry(
         self,
         start: usize,
@@ -555,7 +629,9 @@ impl Builder {
         kind: HandlerKind,
         exceptions: &mut [u32],
     ) -> Answer
-        ensures { λ r. ⌜ kept r (now (exceptions .exit)) ≡ addExceptionOf self start end handler «stack_depth» «exception_stack_count» kind (now (exceptions .entry)) ⌝ }
+        ensures { λ r. ⌜ kept r (now (exceptions .exit))
+            ≡ addExceptionOf self start end handler «stack_depth» «exception_stack_count» kind
+            (now (exceptions .entry)) ⌝ }
     {
         let core = self.core;
         let row = self.exceptions;
@@ -565,26 +641,27 @@ impl Builder {
         if exceptions.len() / EXCEPTION_CELLS < row {
             return Answer::Refused(Refusal::Unsound);
         }
-        if !entries::offsets_fit(start, end, handler) {
+        if !exceptions::offsets_fit(start, end, handler) {
             return Answer::Refused(Refusal::TooLarge);
         }
         if exceptions.len() / EXCEPTION_CELLS <= row {
             return Answer::Refused(Refusal::Full(Table::Exceptions));
         }
         let base = row * EXCEPTION_CELLS;
-        store::row6(
+        tables::row6(
             &mut exceptions[base..],
             start as u32,
             end as u32,
             handler as u32,
             stack_depth as u32,
             exception_stack_count as u32,
-            entries::kind_number(kind),
+            exceptions::kind_number(kind),
         );
-        Answer::Accepted(entries::with_exceptions(self, row + 1))
+        Answer::Accepted(exceptions::with_exceptions(self, row + 1))
     }
 
-    // The depth here, none in dead code.
+    // Answers the depth here; none in dead code.
+    // Never refuses.
     pub fn stack_depth(self) -> Depth
         ensures { λ r. ⌜ r ≡ self .core .depth ⌝ }
     {
@@ -593,7 +670,8 @@ impl Builder {
         depth
     }
 
-    // Whether the code is dead.
+    // Answers whether the code is dead.
+    // Never refuses.
     pub fn is_dead(self) -> bool
         ensures { λ r. ⌜ r ≡ deadOf (self .core .depth) ⌝ }
     {
@@ -605,7 +683,8 @@ impl Builder {
         }
     }
 
-    // Finishes the body: no label is open, and slots without a name get `fill`.
+    // Finishes the body: slots without a name get `fill`.
+    // Refuses 19, 17.
     pub fn build(self, fill: u32, names: &mut [u64], marks: &[u32]) -> Answer
         ensures { λ r. ⌜ kept r (now (names .exit)) ≡ buildOf self fill (now (names .entry)) (now (marks .entry)) ⌝ }
     {
@@ -620,14 +699,15 @@ impl Builder {
         if marks.len() / MARK_CELLS < core.marks {
             return Answer::Refused(Refusal::Unsound);
         }
-        if names::any_open(core.marks, marks) {
+        if marks::any_open(core.marks, marks) {
             return Answer::Refused(Refusal::OpenLabel);
         }
         names::fill_absent(&mut names[..held], fill);
         Answer::Accepted(self)
     }
 
-    // Opens a region of live code at a depth that comes from outside: an exception handler's, or a body's first.
+    // Opens a region of live code at a depth that comes from outside: a body's first, or an exception handler's.
+    // Refuses 19, 15, 18.
     pub fn new_code_region(self, depth: u16, starts: &mut [u32]) -> Answer
         ensures { λ r. ⌜ kept r (now (starts .exit)) ≡ regionOf self depth (now (starts .entry)) ⌝ }
     {

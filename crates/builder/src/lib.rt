@@ -1,23 +1,30 @@
-// The builder: CodeBuilder of pydantic/monty's builder.rs. The state goes in and comes out by value, the tables are lent, and
-// each call decides before it writes, so that a refusal changes neither.
+// The builder: CodeBuilder of pydantic/monty's builder.rs. The state goes in and comes out by value, the tables are
+// lent, and each call decides before it writes, so that a refusal changes neither.
 use code::CodeRange;
 use code::Focus;
 use op::Refusal;
 
-mod aiming;
+// The front door: the 33 public calls.
 mod calls;
-mod deciding;
-mod emitting;
-mod entries;
-mod jumping;
-mod jumps;
-mod marking;
+
+// The order of the refusals, decided on numbers alone.
+mod plan;
+
+// What writes an instruction: any, a jump forward and its patch, a jump back.
+mod back;
+mod emission;
+mod forward;
+mod patch;
+
+// What the other calls are about, and what all share.
+mod constants;
+mod exceptions;
+mod locations;
+mod marks;
 mod names;
-mod narrowing;
-mod patching;
 mod regions;
-mod states;
-mod store;
+mod state;
+mod tables;
 
 // How much of the lent code can be used.
 pub const CODE_LIMIT: usize = 1048576;
@@ -27,15 +34,15 @@ pub const LOCATION_CELLS: usize = 6;
 
 pub const EXCEPTION_CELLS: usize = 6;
 
-pub const MARK_CELLS: usize = 4;
+const MARK_CELLS: usize = 4;
 
 pub const START_CELLS: usize = 2;
 
 // The greatest depth, name and constant index.
-pub const WORD_MAX: u32 = 65535;
+const WORD_MAX: u32 = 65535;
 
 // The bytes of a jump.
-pub const JUMP_SIZE: usize = 3;
+const JUMP_SIZE: usize = 3;
 
 // The operand stack's depth before the next instruction; none in dead code.
 pub enum Depth {
@@ -99,27 +106,4 @@ pub enum Targeted {
 pub enum Added {
     Made(Builder, u16),
     Refused(Refusal),
-}
-
-// The same of the core alone.
-pub enum CoreAnswer {
-    Accepted(Core),
-    Refused(Refusal),
-}
-
-// What a call is to do: nothing, in dead code; refuse; or write.
-pub enum Plan {
-    Idle,
-    Refuse(Refusal),
-    // the depth then; a jump's taken depth or displacement, 0 elsewhere; and the size of the instruction, or the offset of
-    // the jump to patch. The number stands last, where a refusal has its own: else a plan is copied in halves
-    Go(Depth, u16, usize),
-}
-
-// A used mark with its offset and depth. Absent: the row is not used, or of no kind.
-pub enum Mark {
-    Absent,
-    Open(u32, u32),
-    Patched(u32, u32),
-    Target(u32, u32),
 }

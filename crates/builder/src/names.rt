@@ -1,14 +1,11 @@
-// The cells of names, and whether a label is open.
-ghost use mathlib.Core.Path.{_≡_};
-ghost use mathlib.Core.List.{map};
-ghost use Prim.Native.Nat.{ℕ, _+_, _≤_, _<_, _/_};
-ghost use lib.ListN.{length};
+// The names of local slots, and numbers of names as they stand in operands.
+ghost use Prim.Native.Nat.{_≤_, _<_, ℕ, _%_};
+ghost use Rattle.builder.specs.Names.{nameCell, named, extension, withNames};
 ghost use Rattle.code.specs.Bytes.{front};
-ghost use Rattle.builder.specs.Tables.{markCells};
-ghost use Rattle.builder.specs.Calls.{nameCell, named, extension, withNames, anyOpen};
+ghost use lib.ListN.{length};
+ghost use mathlib.Core.List.{map};
+ghost use mathlib.Core.Path.{_≡_};
 use crate::Builder;
-use crate::MARK_CELLS;
-use crate::marking;
 
 // The state with so many names.
 pub fn with_names(b: Builder, names: usize) -> Builder
@@ -68,21 +65,6 @@ pub fn extend(out: &mut [u64], absent: usize, name: u32)
     out[absent] = name_cell(name);
 }
 
-// Whether one of the first `rows` marks is an open label.
-pub fn any_open(rows: usize, marks: &[u32]) -> bool
-    requires { ⌜ rows ≤ length (now marks) / markCells ⌝ }
-    ensures { λ r. ⌜ r ≡ anyOpen rows (now (marks .entry)) ⌝ }
-{
-    let mut i = 0;
-    let mut found = false;
-    while i < rows {
-        let base = i * MARK_CELLS;
-        found = found | (marks[base] == marking::OPEN);
-        i += 1;
-    }
-    found
-}
-
 // Fills the cells that hold no name.
 pub fn fill_absent(cells: &mut [u64], name: u32)
     ensures { λ r. ⌜ now (cells .exit) ≡ map (λ (cell : ℕ). named cell name) (now (cells .entry)) ⌝ }
@@ -92,4 +74,18 @@ pub fn fill_absent(cells: &mut [u64], name: u32)
         cells[i] = named_cell(cells[i], name);
         i += 1;
     }
+}
+
+// A count as a byte. Over 255 it does not matter: live, 7 comes first, and dead code holds no count.
+pub fn count_byte(n: usize) -> u8
+    ensures { λ r. ⌜ r ≡ n % 256 ⌝ }
+{
+    (n % 256) as u8
+}
+
+// A name as a word. Over 65,535 it does not matter: 8 comes first.
+pub fn name_word(name: u32) -> u16
+    ensures { λ r. ⌜ r ≡ name % 65536 ⌝ }
+{
+    (name % 65536) as u16
 }

@@ -2,14 +2,15 @@
 ghost use mathlib.Core.Path.{_≡_};
 ghost use Prim.Native.Nat.{_≤_};
 ghost use Rattle.builder.specs.Tables.{codeLimit};
-ghost use Rattle.builder.specs.Calls.{freshAt, opened, kept, regionAt};
+ghost use Rattle.builder.specs.State.{kept};
+ghost use Rattle.builder.specs.Regions.{freshAt, opened, regionAt};
 use crate::Answer;
 use crate::Builder;
 use crate::Core;
 use crate::Depth;
 use crate::Location;
 use crate::START_CELLS;
-use crate::store;
+use crate::tables;
 use op::Refusal;
 use op::Table;
 
@@ -67,6 +68,6 @@ pub fn store_start(b: Builder, d: u16, starts: &mut [u32]) -> Answer
     }
     let base = row * START_CELLS;
     let at = core.code;
-    store::row2(&mut starts[base..], at as u32, d as u32);
+    tables::row2(&mut starts[base..], at as u32, d as u32);
     Answer::Accepted(open_at(b, d, row + 1))
 }

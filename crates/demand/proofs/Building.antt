@@ -12,13 +12,15 @@ use lib.ListN.{length, getD, getElem?}
 use borrow.Author.Tests.{leb-true}
 use Rattle.op.specs.Choice.{pick}
 use Rattle.op.specs.declared.Refusal.the-variants.{OpenLabel, Unsound}
-use Rattle.builder.specs.Calls.{kept, unless, anyOpen, filledNames, buildOf}
+use Rattle.builder.specs.State.{kept, unless}
+use Rattle.builder.specs.Marks.{anyOpen}
+use Rattle.builder.specs.Names.{filledNames, buildOf}
 use Rattle.builder.specs.Marks.{openKind, markOf, markAt}
 use Rattle.builder.specs.Tables.{codeLimit, markCells, rowsIn}
 use Rattle.builder.specs.declared.Answer.{Answer}
 use Rattle.builder.specs.declared.Answer.the-variants.{Accepted, Refused}
 use Rattle.builder.specs.declared.Builder.{Builder}
-use Rattle.builder.specs.declared.Mark.the-variants.{Absent, Open, Patched, Target}
+use Rattle.builder.specs.declared.marks.Mark.the-variants.{Absent, Open, Patched, Target}
 use Rattle.demand.specs.Machine.{isa}
 use Rattle.demand.specs.History.{ok, waits, to, What, one, leap}
 use Rattle.demand.specs.Calls.{build}

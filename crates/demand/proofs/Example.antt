@@ -15,12 +15,16 @@ use Rattle.op.specs.Shapes.{sizeOf}
 use Rattle.op.specs.declared.Operand.the-variants as O
 use Rattle.code.specs.Bytes.{signed}
 use Rattle.code.specs.Encode.{encode}
-use Rattle.builder.specs.Calls.{freshAt, newOf, regionOf, anyOpen, buildOf}
-use Rattle.builder.specs.Emit.{emitCore, emitNamed}
-use Rattle.builder.specs.Jumps.{jumpPlanOf, emitJumpOf, toLiveOf, toPlanOf, jumpToCore, emitJumpToOf, targetOf}
+use Rattle.builder.specs.Regions.{freshAt, newOf, regionOf}
+use Rattle.builder.specs.Marks.{anyOpen}
+use Rattle.builder.specs.Names.{buildOf}
+use Rattle.builder.specs.Emission.{emitCore, emitNamed}
+use Rattle.builder.specs.Forward.{jumpPlanOf, emitJumpOf}
+use Rattle.builder.specs.Back.{toPlanOf, jumpToCore, emitJumpToOf}
+use Rattle.builder.specs.Marks.{targetOf}
 use Rattle.builder.specs.Marks.{markOf, markIn, fits, markable, near, bits}
 use Rattle.builder.specs.Patch.{markPlanOf, patchPlanOf, patchJumpOf}
-use Rattle.builder.specs.Plan.{soundOf, roomOf, behind, bytesOf, liveOf, planOf}
+use Rattle.builder.specs.Plan.{soundOf, behind, emittingOf, enterOf, planOf}
 use Rattle.builder.specs.Tables.{put}
 use Rattle.builder.specs.declared.Depth.the-variants.{Live}
 use Rattle.builder.specs.declared.JumpLabel.{JumpLabel}
@@ -55,7 +59,7 @@ abbrev ended : Run
 ended = run (begun (Live 0) new) calls
 
 pub example-bytes : finished (ended .world) ≡ 0x06 ∷ 0x5A ∷ 0x06 ∷ 0x00 ∷ 0x08 ∷ 0x07 ∷ 0x00 ∷ 0x58 ∷ 0xF6 ∷ 0xFF ∷ 0x05 ∷ 0x65 ∷ 0x00 ∷ 0x65 ∷ []
-unfolding emitNamed emitCore planOf liveOf bytesOf roomOf behind soundOf encode effectOf effectBy takenOf deadMaker known rowOf table landing sizeOf put signed bits near markIn markOf fits markable emitJumpOf jumpPlanOf emitJumpToOf jumpToCore toPlanOf toLiveOf targetOf patchJumpOf patchPlanOf markPlanOf regionOf
+unfolding emitNamed emitCore planOf emittingOf enterOf behind soundOf encode effectOf effectBy takenOf deadMaker known rowOf table landing sizeOf put signed bits near markIn markOf fits markable emitJumpOf jumpPlanOf emitJumpToOf jumpToCore toPlanOf targetOf patchJumpOf patchPlanOf markPlanOf regionOf
 example-bytes = refl
 
 -- the jumps forward to 10 and back to 0
@@ -64,18 +68,18 @@ pub example-history :
     (0, instruction 0x06 O.None []) ∷ (1, instruction 0x5A (O.Offset (pos 6)) []) ∷ (4, instruction 0x08 (O.I8 (pos 7)) []) ∷ (6, instruction 0x00 O.None []) ∷
     (7, instruction 0x58 (O.Offset (negsuc 9)) []) ∷ (10, instruction 0x05 O.None []) ∷ (11, instruction 0x65 O.None []) ∷ (12, instruction 0x00 O.None []) ∷
     (13, instruction 0x65 O.None []) ∷ []
-unfolding emitNamed emitCore planOf liveOf bytesOf roomOf behind soundOf encode effectOf effectBy takenOf deadMaker known rowOf table landing sizeOf put signed bits near markIn markOf fits markable emitJumpOf jumpPlanOf emitJumpToOf jumpToCore toPlanOf toLiveOf targetOf patchJumpOf patchPlanOf markPlanOf regionOf
+unfolding emitNamed emitCore planOf emittingOf enterOf behind soundOf encode effectOf effectBy takenOf deadMaker known rowOf table landing sizeOf put signed bits near markIn markOf fits markable emitJumpOf jumpPlanOf emitJumpToOf jumpToCore toPlanOf targetOf patchJumpOf patchPlanOf markPlanOf regionOf
 example-history = refl
 
 pub example-starts : regionStarts (ended .world) ≡ 0 ∷ 0 ∷ 12 ∷ 2 ∷ []
-unfolding emitNamed emitCore planOf liveOf bytesOf roomOf behind soundOf encode effectOf effectBy takenOf deadMaker known rowOf table landing sizeOf put signed bits near markIn markOf fits markable emitJumpOf jumpPlanOf emitJumpToOf jumpToCore toPlanOf toLiveOf targetOf patchJumpOf patchPlanOf markPlanOf regionOf
+unfolding emitNamed emitCore planOf emittingOf enterOf behind soundOf encode effectOf effectBy takenOf deadMaker known rowOf table landing sizeOf put signed bits near markIn markOf fits markable emitJumpOf jumpPlanOf emitJumpToOf jumpToCore toPlanOf targetOf patchJumpOf patchPlanOf markPlanOf regionOf
 example-starts = refl
 
 -- at the instructions' offsets, inside two of them, and at the end
 pub example-depths :
     map (depths (ended .world) (ended .history)) (0 ∷ 1 ∷ 4 ∷ 6 ∷ 7 ∷ 10 ∷ 11 ∷ 12 ∷ 13 ∷ 2 ∷ 5 ∷ 14 ∷ []) ≡
     some 0 ∷ some 1 ∷ some 0 ∷ some 1 ∷ some 0 ∷ some 0 ∷ some 1 ∷ some 2 ∷ some 1 ∷ none ∷ none ∷ none ∷ []
-unfolding emitNamed emitCore planOf liveOf bytesOf roomOf behind soundOf encode effectOf effectBy takenOf deadMaker known rowOf table landing sizeOf put signed bits near markIn markOf fits markable emitJumpOf jumpPlanOf emitJumpToOf jumpToCore toPlanOf toLiveOf targetOf patchJumpOf patchPlanOf markPlanOf regionOf
+unfolding emitNamed emitCore planOf emittingOf enterOf behind soundOf encode effectOf effectBy takenOf deadMaker known rowOf table landing sizeOf put signed bits near markIn markOf fits markable emitJumpOf jumpPlanOf emitJumpToOf jumpToCore toPlanOf targetOf patchJumpOf patchPlanOf markPlanOf regionOf
 example-depths = refl
 
 -- the contracts allow these calls: a world's tables lent from any place, and the cells as the model has them
@@ -213,7 +217,7 @@ all-can = (
 
 -- `build` accepts, so the demand speaks of the world behind it
 accepted : step (build 0) (ended .world) .answer ≡ ok
-unfolding emitNamed emitCore planOf liveOf bytesOf roomOf behind soundOf encode effectOf effectBy takenOf deadMaker known rowOf table landing sizeOf put signed bits near markIn markOf fits markable emitJumpOf jumpPlanOf emitJumpToOf jumpToCore toPlanOf toLiveOf targetOf patchJumpOf patchPlanOf markPlanOf regionOf buildOf anyOpen
+unfolding emitNamed emitCore planOf emittingOf enterOf behind soundOf encode effectOf effectBy takenOf deadMaker known rowOf table landing sizeOf put signed bits near markIn markOf fits markable emitJumpOf jumpPlanOf emitJumpToOf jumpToCore toPlanOf targetOf patchJumpOf patchPlanOf markPlanOf regionOf buildOf anyOpen
 accepted = refl
 
 pub example-demand : Demand (ended .world) (step (build 0) (ended .world) .left) (ended .history)

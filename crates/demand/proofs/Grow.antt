@@ -9,8 +9,8 @@ use Prim.Native.Nat.{ℕ, _+_, _≤_}
 use lib.ListN.{length, getElem?}
 use Rattle.builder.specs.declared.Depth.{Depth}
 use Rattle.builder.specs.declared.Depth.the-variants.{Live}
-use Rattle.builder.specs.declared.Mark.{Mark}
-use Rattle.builder.specs.declared.Mark.the-variants.{Open, Target}
+use Rattle.builder.specs.declared.marks.Mark.{Mark}
+use Rattle.builder.specs.declared.marks.Mark.the-variants.{Open, Target}
 use Rattle.demand.specs.Isa.{Isa}
 use Rattle.demand.specs.History.{waits, leap, Row, size}
 use Rattle.demand.proofs.Laws.{Laws}

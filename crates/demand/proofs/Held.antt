@@ -15,20 +15,23 @@ use Rattle.builder.specs.declared.Depth.{Depth}
 use Rattle.builder.specs.declared.JumpLabel.{JumpLabel}
 use Rattle.builder.specs.declared.JumpLabel.the-variants as L
 use Rattle.builder.specs.declared.JumpTarget.{JumpTarget}
-use Rattle.builder.specs.declared.Plan.{Plan}
-use Rattle.builder.specs.declared.Plan.the-variants.{Idle, Refuse, Go}
+use Rattle.builder.specs.declared.patch.PatchPlan.{PatchPlan}
+use Rattle.builder.specs.declared.patch.PatchPlan.the-variants as Patching
+use Rattle.builder.specs.declared.plan.Plan.{Plan}
+use Rattle.builder.specs.declared.plan.Plan.the-variants.{Idle, Refuse, Go}
 use Rattle.builder.specs.Tables.{put}
 use Rattle.builder.specs.Plan.{planOf}
-use Rattle.builder.specs.Emit.{commitOf, emitCore, outcomeBy, emitNamed}
+use Rattle.builder.specs.Emission.{commitOf, emitCore, outcomeBy, emitNamed}
 use Rattle.builder.specs.Marks.{markIn, markable}
-use Rattle.builder.specs.Jumps.{unpatched, jumpBy, jumpPlanOf, commitJump, emitJumpOf}
-use Rattle.builder.specs.Jumps.{toPlanOf, commitTo, jumpToCore, emitJumpToOf}
+use Rattle.builder.specs.Forward.{unpatched, jumpPlanOf, commitJump, emitJumpOf}
+use Rattle.builder.specs.Back.{jumpBy}
+use Rattle.builder.specs.Back.{toPlanOf, commitTo, jumpToCore, emitJumpToOf}
 use Rattle.builder.specs.Patch.{markPlanOf, patchPlanOf, commitPatch, patchJumpOf}
 use Rattle.demand.specs.World.{after, afterJump}
 use Rattle.builder.proofs.Putting.{length-put}
-use Rattle.builder.proofs.Plans.{guard-go, LiveGoes, plan-goes}
+use Rattle.builder.proofs.Plans.{LiveGoes, plan-goes}
 use Rattle.builder.proofs.JumpPlans.{forward-goes, to-goes}
-use Rattle.builder.proofs.PatchPlans.{patch-goes}
+use Rattle.builder.proofs.PatchPlans.{patch-guard-go, patch-goes}
 use Rattle.demand.proofs.Idle.{guard-never}
 
 module _ (b : Builder) (k : ℕ) (code locs : List ℕ) (within : b .core .code ≤ length code) where
@@ -79,18 +82,18 @@ module _ (b : Builder) (k : ℕ) (code locs : List ℕ) (within : b .core .code 
       to-held = to-held-by (toPlanOf (b .core) (b .location) k t (length code) (length locs) marks) refl
 
 module _ (b : Builder) (code marks : List ℕ) (within : b .core .code ≤ length code) where
-  patch-place : (x : JumpLabel) (o w : ℕ) (a : Depth) → patchPlanOf (b .core) x (length code) marks ≡ Go a w o → o + 3 ≤ b .core .code
+  patch-place : (x : JumpLabel) (o w : ℕ) (a : Depth) → patchPlanOf (b .core) x (length code) marks ≡ Patching.Go a w o → o + 3 ≤ b .core .code
   unfolding patchPlanOf
   patch-place L.Dead o w a e = absurd (guard-never (markable (b .core) (length code) (length marks)) Unsound o w a e)
   patch-place (L.Row i) o w a e =
       let m = markIn (b .core .marks) marks i in
-      patch-goes (b .core) o w a m (guard-go (markable (b .core) (length code) (length marks)) Unsound (markPlanOf m (b .core)) e .1) .place
+      patch-goes (b .core) o w a m (patch-guard-go (markable (b .core) (length code) (length marks)) Unsound (markPlanOf m (b .core)) e .1) .place
 
-  patch-held-by : (x : JumpLabel) (p : Plan) → patchPlanOf (b .core) x (length code) marks ≡ p
+  patch-held-by : (x : JumpLabel) (p : PatchPlan) → patchPlanOf (b .core) x (length code) marks ≡ p
       → after (commitPatch p b x code marks .answer) b .core .code ≤ length (commitPatch p b x code marks .code)
-  patch-held-by x Idle e = within
-  patch-held-by x (Refuse r) e = within
-  patch-held-by x (Go a w o) e = omega (arith, length-put (o + 1) (wordBytes w) code (omega (arith, patch-place x o w a e)))
+  patch-held-by x Patching.Idle e = within
+  patch-held-by x (Patching.Refuse r) e = within
+  patch-held-by x (Patching.Go a w o) e = omega (arith, length-put (o + 1) (wordBytes w) code (omega (arith, patch-place x o w a e)))
 
   pub patch-held : (x : JumpLabel) → after (patchJumpOf b x code marks .answer) b .core .code ≤ length (patchJumpOf b x code marks .code)
   unfolding patchJumpOf

@@ -21,15 +21,24 @@ use Rattle.builder.specs.declared.Depth.the-variants.{Dead, Live}
 use Rattle.builder.specs.declared.JumpLabel.{JumpLabel}
 use Rattle.builder.specs.declared.JumpTarget.{JumpTarget}
 use Rattle.builder.specs.declared.Jumped.the-variants as J
-use Rattle.builder.specs.declared.Plan.{Plan}
-use Rattle.builder.specs.declared.Plan.the-variants.{Idle, Refuse, Go}
+use Rattle.builder.specs.declared.patch.PatchPlan.{PatchPlan}
+use Rattle.builder.specs.declared.patch.PatchPlan.the-variants as Patching
+use Rattle.builder.specs.declared.plan.Plan.{Plan}
+use Rattle.builder.specs.declared.plan.Plan.the-variants.{Idle, Refuse, Go}
 use Rattle.builder.specs.declared.Targeted.the-variants as G
 use Rattle.builder.specs.Tables.{codeLimit, wordMax, exceptionCells, markCells, startCells, rowsIn, rowFree}
 use Rattle.builder.specs.Plan.{planOf}
-use Rattle.builder.specs.Emit.{commitOf, emitCore, outcomeBy, emitNamed}
-use Rattle.builder.specs.Jumps.{jumpPlanOf, commitJump, emitJumpOf, toPlanOf, commitTo, jumpToCore, emitJumpToOf, TargetOutcome, targetAt, targetOf}
+use Rattle.builder.specs.Emission.{commitOf, emitCore, outcomeBy, emitNamed}
+use Rattle.builder.specs.Marks.{TargetOutcome, targetAt, targetOf}
+use Rattle.builder.specs.Forward.{jumpPlanOf, commitJump, emitJumpOf}
+use Rattle.builder.specs.Back.{toPlanOf, commitTo, jumpToCore, emitJumpToOf}
 use Rattle.builder.specs.Patch.{patchPlanOf, commitPatch, patchJumpOf}
-use Rattle.builder.specs.Calls.{AddedKept, addConstOf, withConstants, Kept, kept, unless, countsOf, freshAt, offsetsFit, withExceptions, withNames, newOf, regionAt, regionOf, addExceptionOf, registerNamesOf, registerNameOf, anyOpen, buildOf}
+use Rattle.builder.specs.State.{Kept, kept, unless, countsOf}
+use Rattle.builder.specs.Marks.{anyOpen}
+use Rattle.builder.specs.Regions.{freshAt, newOf, regionAt, regionOf}
+use Rattle.builder.specs.Constants.{AddedKept, addConstOf, withConstants}
+use Rattle.builder.specs.Exceptions.{offsetsFit, withExceptions, addExceptionOf}
+use Rattle.builder.specs.Names.{withNames, registerNamesOf, registerNameOf, buildOf}
 
 -- refused: the tables are as they were
 
@@ -70,11 +79,11 @@ module _ (b : Builder) (r : Refusal) where
     to-refused t e = to-by (toPlanOf (b .core) (b .location) k t (length code) (length locs) marks) e
 
   module _ (l : JumpLabel) (code marks : List ℕ) where
-    patch-by : (p : Plan) → commitPatch p b l code marks .answer ≡ Refused r
+    patch-by : (p : PatchPlan) → commitPatch p b l code marks .answer ≡ Refused r
         → (commitPatch p b l code marks .code ≡ code) × (commitPatch p b l code marks .marks ≡ marks)
-    patch-by Idle e = (refl, refl)
-    patch-by (Refuse q) e = (refl, refl)
-    patch-by (Go a w o) e = (cc, cc)
+    patch-by Patching.Idle e = (refl, refl)
+    patch-by (Patching.Refuse q) e = (refl, refl)
+    patch-by (Patching.Go a w o) e = (cc, cc)
 
     pub patch-refused : patchJumpOf b l code marks .answer ≡ Refused r → (patchJumpOf b l code marks .code ≡ code) × (patchJumpOf b l code marks .marks ≡ marks)
     unfolding patchJumpOf

@@ -8,11 +8,18 @@ use Rattle.op.specs.Opcodes.{RaiseUnboundLocal}
 use Rattle.op.specs.declared.Operand.the-variants as O
 use Rattle.builder.specs.declared.Builder.{Builder}
 use Rattle.builder.specs.declared.Location.the-variants.{Set}
-use Rattle.builder.specs.Emit.{loadOp, loadOperand, storeOp, storeOperand}
-use Rattle.builder.specs.Emit.{Outcome, emitNamed, emitOf}
-use Rattle.builder.specs.Jumps.{JumpOutcome, emitJumpOf, emitJumpToOf, TargetOutcome, targetOf}
+use Rattle.builder.specs.Emission.{loadOp, loadOperand, storeOp, storeOperand}
+use Rattle.builder.specs.Emission.{Outcome, emitNamed, emitOf}
+use Rattle.builder.specs.Forward.{JumpOutcome, emitJumpOf}
+use Rattle.builder.specs.Back.{emitJumpToOf}
+use Rattle.builder.specs.Marks.{TargetOutcome, targetOf}
 use Rattle.builder.specs.Patch.{PatchOutcome, patchJumpOf}
-use Rattle.builder.specs.Calls.{Kept, AddedKept, regionOf, addConstOf, addExceptionOf, registerNamesOf, registerNameOf, buildOf, withLocation}
+use Rattle.builder.specs.State.{Kept}
+use Rattle.builder.specs.Constants.{AddedKept, addConstOf}
+use Rattle.builder.specs.Regions.{regionOf}
+use Rattle.builder.specs.Exceptions.{addExceptionOf}
+use Rattle.builder.specs.Names.{registerNamesOf, registerNameOf, buildOf}
+use Rattle.builder.specs.Locations.{withLocation}
 use Rattle.demand.specs.History.{Given, ok}
 use Rattle.demand.specs.Calls.{emit′, emit-u8, emit-i8, emit-u8-u8, emit-u16, emit-u16-u16, emit-u16-u8, emit-u16-u8-u8, emit-call-builtin-function, emit-call-builtin-type}
 use Rattle.demand.specs.Calls.{emit-call-function-kw, emit-call-attr-kw, emit-raise-unbound-local, emit-load-global-callable, emit-name-op, emit-load-local, emit-store-local}

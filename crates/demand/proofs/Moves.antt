@@ -15,11 +15,12 @@ use Rattle.builder.specs.declared.Depth.the-variants.{Dead, Live}
 use Rattle.builder.specs.declared.JumpLabel.the-variants as L
 use Rattle.builder.specs.declared.JumpTarget.{JumpTarget}
 use Rattle.builder.specs.declared.JumpTarget.the-variants as T
-use Rattle.builder.specs.declared.Mark.the-variants.{Open, Patched, Target}
+use Rattle.builder.specs.declared.marks.Mark.the-variants.{Open, Patched, Target}
 use Rattle.builder.specs.Tables.{wordMax}
 use Rattle.builder.specs.Plan.{behind}
 use Rattle.builder.specs.Marks.{meets, bits, near}
-use Rattle.builder.specs.Jumps.{unpatched, jumpBy}
+use Rattle.builder.specs.Forward.{unpatched}
+use Rattle.builder.specs.Back.{jumpBy}
 use Rattle.demand.proofs.View.{View, Moved}
 use Rattle.demand.specs.History.{emitJump, emitJumpTo, patchJump, jumpTarget, newRegion, ok, label, target}
 use Rattle.demand.proofs.View.{labelled, jumped, patched, spotted, opened}

@@ -13,8 +13,8 @@ use borrow.Author.Tests.{eqb-true, eqb-false, eq-eqb, ne-eqb}
 use Rattle.op.specs.Choice.{pick}
 use Rattle.builder.specs.Marks.{near}
 use Rattle.builder.specs.declared.Depth.the-variants.{Live}
-use Rattle.builder.specs.declared.Mark.{Mark}
-use Rattle.builder.specs.declared.Mark.the-variants.{Open, Patched, Target}
+use Rattle.builder.specs.declared.marks.Mark.{Mark}
+use Rattle.builder.specs.declared.marks.Mark.the-variants.{Open, Patched, Target}
 use Rattle.demand.specs.Isa.{Isa}
 use Rattle.demand.specs.History.{waits, to, What, one, leap, Row, size, aimed, resolve}
 use Rattle.demand.proofs.Laws.{Laws}

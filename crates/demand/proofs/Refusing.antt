@@ -10,11 +10,17 @@ use Rattle.op.specs.Opcodes.{RaiseUnboundLocal}
 use Rattle.op.specs.declared.Operand.{Operand}
 use Rattle.op.specs.declared.Operand.the-variants as O
 use Rattle.op.specs.declared.Refusal.{Refusal}
-use Rattle.builder.specs.Emit.{loadOp, loadOperand, storeOp, storeOperand}
-use Rattle.builder.specs.Emit.{Outcome, emitNamed}
-use Rattle.builder.specs.Jumps.{emitJumpOf, emitJumpToOf, targetOf}
+use Rattle.builder.specs.Emission.{loadOp, loadOperand, storeOp, storeOperand}
+use Rattle.builder.specs.Emission.{Outcome, emitNamed}
+use Rattle.builder.specs.Forward.{emitJumpOf}
+use Rattle.builder.specs.Back.{emitJumpToOf}
+use Rattle.builder.specs.Marks.{targetOf}
 use Rattle.builder.specs.Patch.{patchJumpOf}
-use Rattle.builder.specs.Calls.{Kept, newOf, regionOf, addConstOf, addExceptionOf, registerNamesOf, registerNameOf, buildOf}
+use Rattle.builder.specs.State.{Kept}
+use Rattle.builder.specs.Regions.{newOf, regionOf}
+use Rattle.builder.specs.Constants.{addConstOf}
+use Rattle.builder.specs.Exceptions.{addExceptionOf}
+use Rattle.builder.specs.Names.{registerNamesOf, registerNameOf, buildOf}
 use Rattle.builder.specs.declared.Added.{Added}
 use Rattle.builder.specs.declared.Added.the-variants as N
 use Rattle.builder.specs.declared.Answer.{Answer}

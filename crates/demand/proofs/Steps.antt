@@ -16,9 +16,13 @@ use Rattle.op.specs.declared.Operand.{Operand}
 use Rattle.op.specs.declared.Operand.the-variants as O
 use Rattle.code.specs.Encode.{SignsFit}
 use Rattle.builder.specs.Tables.{startCells}
-use Rattle.builder.specs.Emit.{loadOp, loadOperand, storeOp, storeOperand}
-use Rattle.builder.specs.Emit.{emitNamed}
-use Rattle.builder.specs.Calls.{Kept, addConstOf, addExceptionOf, registerNamesOf, registerNameOf, buildOf, withLocation}
+use Rattle.builder.specs.Emission.{loadOp, loadOperand, storeOp, storeOperand}
+use Rattle.builder.specs.Emission.{emitNamed}
+use Rattle.builder.specs.State.{Kept}
+use Rattle.builder.specs.Constants.{addConstOf}
+use Rattle.builder.specs.Exceptions.{addExceptionOf}
+use Rattle.builder.specs.Names.{registerNamesOf, registerNameOf, buildOf}
+use Rattle.builder.specs.Locations.{withLocation}
 use Rattle.builder.specs.declared.Added.{Added}
 use Rattle.builder.specs.declared.Added.the-variants as N
 use Rattle.builder.specs.declared.Answer.{Answer}

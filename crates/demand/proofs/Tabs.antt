@@ -15,7 +15,7 @@ use lib.ListN.{length, take, drop, getD, set, getElem?, length-append, List·get
 use lib.Seq.{set-at, set-append-left, getD-set-same, getD-set-other, getD-append-add, getD-take, length-take-le, sets-eq, take-set-lt}
 use Rattle.op.specs.Choice.{pick}
 use Rattle.code.specs.Bytes.{wordBytes}
-use Rattle.builder.specs.declared.Mark.the-variants.{Absent, Open, Patched, Target}
+use Rattle.builder.specs.declared.marks.Mark.the-variants.{Absent, Open, Patched, Target}
 use Rattle.builder.specs.Tables.{markCells, startCells, put}
 use Rattle.builder.specs.Marks.{openKind, patchedKind, targetKind, markRow, markOf, markAt}
 use Rattle.demand.proofs.Lists.{nth-left, nth-seam}

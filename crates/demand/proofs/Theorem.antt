@@ -6,7 +6,9 @@ use Prim.Native.Nat.{ℕ, _≤_, _<_}
 use native.Mathlib.Omega.{arith}
 use lib.ListN.{length}
 use lib.Seq.{length-take-le}
-use Rattle.builder.specs.Calls.{Kept, kept, newOf, buildOf}
+use Rattle.builder.specs.State.{Kept, kept}
+use Rattle.builder.specs.Regions.{newOf}
+use Rattle.builder.specs.Names.{buildOf}
 use Rattle.builder.specs.Tables.{codeLimit}
 use Rattle.builder.specs.declared.Answer.the-variants.{Accepted}
 use Rattle.builder.specs.declared.Depth.{Depth}

@@ -18,7 +18,8 @@ use Rattle.op.specs.declared.Operand.{Operand}
 use Rattle.op.specs.declared.Refusal.{Refusal}
 use Rattle.code.specs.Decode.{namesIn}
 use Rattle.code.specs.Encode.{encode, SignsFit}
-use Rattle.builder.specs.Jumps.{unpatched, jumpBy}
+use Rattle.builder.specs.Forward.{unpatched}
+use Rattle.builder.specs.Back.{jumpBy}
 use Rattle.builder.specs.Marks.{near, bits, meets}
 use Rattle.builder.specs.Plan.{behind}
 use Rattle.builder.specs.declared.Depth.{Depth}
@@ -26,8 +27,8 @@ use Rattle.builder.specs.declared.Depth.the-variants.{Dead, Live}
 use Rattle.builder.specs.declared.JumpLabel.the-variants as L
 use Rattle.builder.specs.declared.JumpTarget.{JumpTarget}
 use Rattle.builder.specs.declared.JumpTarget.the-variants as T
-use Rattle.builder.specs.declared.Mark.{Mark}
-use Rattle.builder.specs.declared.Mark.the-variants.{Open, Patched, Target}
+use Rattle.builder.specs.declared.marks.Mark.{Mark}
+use Rattle.builder.specs.declared.marks.Mark.the-variants.{Open, Patched, Target}
 use Rattle.builder.proofs.Displacing.{displaced}
 use Rattle.builder.proofs.Plans.{after-shape}
 use Rattle.demand.specs.Machine.{instruction, inRange, isa}

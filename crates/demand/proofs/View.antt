@@ -18,13 +18,14 @@ use Rattle.builder.specs.declared.Depth.the-variants.{Dead, Live}
 use Rattle.builder.specs.declared.JumpLabel.the-variants as L
 use Rattle.builder.specs.declared.JumpTarget.{JumpTarget}
 use Rattle.builder.specs.declared.JumpTarget.the-variants as T
-use Rattle.builder.specs.declared.Mark.{Mark}
-use Rattle.builder.specs.declared.Mark.the-variants.{Open, Patched, Target}
+use Rattle.builder.specs.declared.marks.Mark.{Mark}
+use Rattle.builder.specs.declared.marks.Mark.the-variants.{Open, Patched, Target}
 use Rattle.demand.specs.History.{Call, emit, emitJump, emitJumpTo, patchJump, jumpTarget, newRegion, other, Given, no, ok, label, target}
 use Rattle.builder.specs.Tables.{startCells, wordMax, jumpSize}
 use Rattle.builder.specs.Plan.{behind}
 use Rattle.builder.specs.Marks.{markAt, near, bits, meets}
-use Rattle.builder.specs.Jumps.{unpatched, jumpBy}
+use Rattle.builder.specs.Forward.{unpatched}
+use Rattle.builder.specs.Back.{jumpBy}
 
 -- the first n values of f
 unfoldable pub tab : {A : Type 0} → ℕ → (ℕ → A) → List A

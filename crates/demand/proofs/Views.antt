@@ -24,18 +24,22 @@ use Rattle.builder.specs.declared.JumpLabel.{JumpLabel}
 use Rattle.builder.specs.declared.JumpLabel.the-variants as L
 use Rattle.builder.specs.declared.JumpTarget.{JumpTarget}
 use Rattle.builder.specs.declared.Location.{Location}
-use Rattle.builder.specs.declared.Mark.the-variants.{Open, Target}
-use Rattle.builder.specs.declared.Plan.{Plan}
-use Rattle.builder.specs.declared.Plan.the-variants.{Idle, Refuse, Go}
+use Rattle.builder.specs.declared.marks.Mark.the-variants.{Open, Target}
+use Rattle.builder.specs.declared.patch.PatchPlan.{PatchPlan}
+use Rattle.builder.specs.declared.patch.PatchPlan.the-variants as Patching
+use Rattle.builder.specs.declared.plan.Plan.{Plan}
+use Rattle.builder.specs.declared.plan.Plan.the-variants.{Idle, Refuse, Go}
 use Rattle.builder.specs.Tables.{codeLimit, markCells, startCells, rowsIn, rowFree, put}
-use Rattle.builder.specs.Plan.{guard, planOf}
-use Rattle.builder.specs.Emit.{commitOf, emitCore, outcomeBy, emitNamed}
+use Rattle.builder.specs.Plan.{planOf}
+use Rattle.builder.specs.Emission.{commitOf, emitCore, outcomeBy, emitNamed}
 use Rattle.builder.specs.Marks.{openKind, targetKind, markAt, markIn, markOf, markable, meets, revived}
-use Rattle.builder.specs.Jumps.{unpatched, jumpBy, jumpPlanOf, commitJump, emitJumpOf}
-use Rattle.builder.specs.Jumps.{toPlanOf, commitTo, jumpToCore, emitJumpToOf}
-use Rattle.builder.specs.Jumps.{targetAt, targetOf}
-use Rattle.builder.specs.Patch.{markPlanOf, patchPlanOf, commitPatch, patchJumpOf}
-use Rattle.builder.specs.Calls.{kept, unless, countsOf, freshAt, newOf, regionAt, regionOf}
+use Rattle.builder.specs.Forward.{unpatched, jumpPlanOf, commitJump, emitJumpOf}
+use Rattle.builder.specs.Back.{jumpBy}
+use Rattle.builder.specs.Back.{toPlanOf, commitTo, jumpToCore, emitJumpToOf}
+use Rattle.builder.specs.Marks.{targetAt, targetOf}
+use Rattle.builder.specs.Patch.{patchGuard, markPlanOf, patchPlanOf, commitPatch, patchJumpOf}
+use Rattle.builder.specs.State.{kept, unless, countsOf}
+use Rattle.builder.specs.Regions.{freshAt, newOf, regionAt, regionOf}
 use Rattle.demand.specs.History.{born}
 use Rattle.demand.specs.World.{given, after, givenJump, afterJump, givenTarget, afterTarget}
 use Rattle.demand.proofs.View.{viewOf, tab, Moved}
@@ -137,20 +141,20 @@ revived-live Dead d e = refl
 revived-live (Live f) d e = ap Live (eqb-true f d e)
 
 module _ (b : Builder) (code marks starts : List ℕ) where
-  dead-by : (p : Plan) → guard (markable (b .core) (length code) (length marks)) Unsound Idle ≡ p
+  dead-by : (p : PatchPlan) → patchGuard (markable (b .core) (length code) (length marks)) Unsound Patching.Idle ≡ p
       → Moved (viewOf b code marks starts) (patchJump L.Dead) (given (commitPatch p b L.Dead code marks .answer))
       (viewOf (after (commitPatch p b L.Dead code marks .answer) b) (commitPatch p b L.Dead code marks .code) (commitPatch p b L.Dead code marks .marks) starts)
-  dead-by Idle e = dead-patch
-  dead-by (Refuse r) e = refused
-  dead-by (Go a w o) e = absurd (guard-never (markable (b .core) (length code) (length marks)) _ o w a e)
+  dead-by Patching.Idle e = dead-patch
+  dead-by (Patching.Refuse r) e = refused
+  dead-by (Patching.Go a w o) e = absurd (guard-never (markable (b .core) (length code) (length marks)) _ o w a e)
 
   module _ (i : ℕ) where
-    row-by : (p : Plan) → markable (b .core) (length code) (length marks) ≡ true → markPlanOf (markIn (b .core .marks) marks i) (b .core) ≡ p
+    row-by : (p : PatchPlan) → markable (b .core) (length code) (length marks) ≡ true → markPlanOf (markIn (b .core .marks) marks i) (b .core) ≡ p
         → Moved (viewOf b code marks starts) (patchJump (L.Row i)) (given (commitPatch p b (L.Row i) code marks .answer))
         (viewOf (after (commitPatch p b (L.Row i) code marks .answer) b) (commitPatch p b (L.Row i) code marks .code) (commitPatch p b (L.Row i) code marks .marks) starts)
-    row-by Idle sd e = absurd (mark-busy (markIn (b .core .marks) marks i) (b .core) e)
-    row-by (Refuse r) sd e = refused
-    row-by (Go a w o) sd e =
+    row-by Patching.Idle sd e = absurd (mark-busy (markIn (b .core .marks) marks i) (b .core) e)
+    row-by (Patching.Refuse r) sd e = refused
+    row-by (Patching.Go a w o) sd e =
         let c = b .core in
         let h = markable-true c (length code) (length marks) sd in
         let g = patch-goes c o w a (markIn (c .marks) marks i) e in
@@ -159,13 +163,13 @@ module _ (b : Builder) (code marks starts : List ℕ) where
         (patched-at (viewOf b code marks starts) i o (g .depth) (c .code) w a (g .after ∙ revived-live (c .depth) (g .depth) (g .meet)) (length-take-le (c .code) code (h .code)) (g .word)
         (tab-nth (c .marks) (markAt marks) i (u .0) ∙ ap some (u .1)) (g .small) (g .meet) (g .close) (g .place))
 
-    row-any : (t : Bool) → markable (b .core) (length code) (length marks) ≡ t → (p : Plan) → guard t Unsound (markPlanOf (markIn (b .core .marks) marks i) (b .core)) ≡ p
+    row-any : (t : Bool) → markable (b .core) (length code) (length marks) ≡ t → (p : PatchPlan) → patchGuard t Unsound (markPlanOf (markIn (b .core .marks) marks i) (b .core)) ≡ p
         → Moved (viewOf b code marks starts) (patchJump (L.Row i)) (given (commitPatch p b (L.Row i) code marks .answer))
         (viewOf (after (commitPatch p b (L.Row i) code marks .answer) b) (commitPatch p b (L.Row i) code marks .code) (commitPatch p b (L.Row i) code marks .marks) starts)
     row-any true sd p e = row-by p sd e
     row-any false sd p e = rw (sym e) refused
 
-  label-by : (x : JumpLabel) (p : Plan) → patchPlanOf (b .core) x (length code) marks ≡ p
+  label-by : (x : JumpLabel) (p : PatchPlan) → patchPlanOf (b .core) x (length code) marks ≡ p
       → Moved (viewOf b code marks starts) (patchJump x) (given (commitPatch p b x code marks .answer))
       (viewOf (after (commitPatch p b x code marks .answer) b) (commitPatch p b x code marks .code) (commitPatch p b x code marks .marks) starts)
   unfolding patchPlanOf

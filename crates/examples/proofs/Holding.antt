@@ -15,18 +15,19 @@ use Rattle.code.specs.Flow.{goalBy, flowOf}
 use Rattle.code.specs.Lookups.{coversOf, firstCovering, handlerOf}
 use Rattle.code.specs.Rows.{first}
 use Rattle.builder.specs.Tables.{put}
-use Rattle.builder.specs.Plan.{soundOf, roomOf, behind, bytesOf, liveOf, planOf}
-use Rattle.builder.specs.Emit.{emitCore, emitNamed}
-use Rattle.builder.specs.Marks.{markOf, markIn, fits, markable, near, bits}
-use Rattle.builder.specs.Jumps.{jumpPlanOf, emitJumpOf, toLiveOf, toPlanOf, jumpToCore, emitJumpToOf}
-use Rattle.builder.specs.Patch.{markPlanOf, patchPlanOf, patchJumpOf}
-use Rattle.builder.specs.Calls.{addConstOf}
+use Rattle.builder.specs.Marks.{bits, fits, markIn, markOf, markable, near}
+use Rattle.builder.specs.Plan.{behind, emittingOf, enterOf, planOf, soundOf}
+use Rattle.builder.specs.Emission.{emitCore, emitNamed}
+use Rattle.builder.specs.Forward.{emitJumpOf, jumpPlanOf}
+use Rattle.builder.specs.Back.{emitJumpToOf, jumpToCore, toPlanOf}
+use Rattle.builder.specs.Patch.{markPlanOf, patchJumpOf, patchPlanOf}
+use Rattle.builder.specs.Constants.{addConstOf}
 use Rattle.checker.specs.Cells.{held}
 use Rattle.checker.proofs.Certificate.{certificate, must-accept, must-refuse}
 use Rattle.examples.specs.Table.{Examples, code-a, code-k, from-zero}
 
 pub hold : Examples
-unfolding landing effectBy effectOf takenOf deadMaker table known rowOf shapeOf sizeOf signed operandIn decode encode findFrom tableOf goalBy flowOf coversOf firstCovering handlerOf first put soundOf roomOf behind liveOf bytesOf planOf emitCore emitNamed markOf markIn fits markable near bits jumpPlanOf emitJumpOf toLiveOf toPlanOf jumpToCore emitJumpToOf markPlanOf patchPlanOf patchJumpOf addConstOf held certificate
+unfolding landing effectBy effectOf takenOf deadMaker table known rowOf shapeOf sizeOf signed operandIn decode encode findFrom tableOf goalBy flowOf coversOf firstCovering handlerOf first put soundOf behind emittingOf enterOf planOf emitCore emitNamed markOf markIn fits markable near bits jumpPlanOf emitJumpOf toPlanOf jumpToCore emitJumpToOf markPlanOf patchPlanOf patchJumpOf addConstOf held certificate
 hold = record {
   a = λ d d′ r room P. must-accept code-a from-zero (0 ∷ 1 ∷ 65536 ∷ 65536 ∷ 0 ∷ 65536 ∷ 1 ∷ 0 ∷ 1 ∷ 65536 ∷ []) 6 tt (omega arith) d d′ r room P;
   b = (refl, λ code n. rw n refl);

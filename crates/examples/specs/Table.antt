@@ -27,11 +27,13 @@ use Rattle.builder.specs.declared.JumpTarget.the-variants as T
 use Rattle.builder.specs.declared.Jumped.the-variants as J
 use Rattle.builder.specs.declared.Location.the-variants.{Unset}
 use Rattle.builder.specs.Tables.{put}
-use Rattle.builder.specs.Emit.{outcome, emitOf, emitNamed, CallFunctionKw, loadOp, loadOperand}
+use Rattle.op.specs.Chosen.{CallFunctionKw}
+use Rattle.builder.specs.Emission.{outcome, emitOf, emitNamed, loadOp, loadOperand}
 use Rattle.builder.specs.Marks.{bits, markRow, openKind, patchedKind, targetKind}
-use Rattle.builder.specs.Jumps.{jumpOutcome, emitJumpOf, emitJumpToOf}
+use Rattle.builder.specs.Forward.{jumpOutcome, emitJumpOf}
+use Rattle.builder.specs.Back.{emitJumpToOf}
 use Rattle.builder.specs.Patch.{patchOutcome, patchJumpOf}
-use Rattle.builder.specs.Calls.{addedKept, addConstOf}
+use Rattle.builder.specs.Constants.{addedKept, addConstOf}
 use Rattle.checker.specs.declared.Checked.{Checked}
 use Rattle.checker.specs.declared.Checked.the-variants as C
 use Rattle.checker.specs.Promise.{Promise}

@@ -2,7 +2,7 @@
 -- Assumes nothing.
 use Prim.Native.Nat.{_+_, _≤_}
 use Rattle.builder.proofs.Putting.{put-lent}
-use Rattle.builder.specs.Calls.{addConstOf}
+use Rattle.builder.specs.Constants.{addConstOf}
 use borrow.Author.Needs.{needs}
 use borrow.Author.Tests.{le-leb, le-ltb, lt-leb, lt-ltb}
 use lib.ListN.{length}

@@ -1,6 +1,6 @@
 -- `builder::Builder::build` meets its contract: its tests are the definition's, and the lent part comes back filled.
 -- Assumes nothing.
-use Rattle.builder.specs.Calls.{buildOf}
+use Rattle.builder.specs.Names.{buildOf}
 use borrow.Author.Needs.{needs}
 use borrow.Author.Tests.{le-leb, lt-leb}
 use lib.Seq.{length-take-le}

@@ -1,6 +1,6 @@
 -- `builder::Builder::current_jump_target` meets its contract: its tests are the definition's.
 -- Assumes nothing.
-use Rattle.builder.specs.Jumps.{targetOf}
+use Rattle.builder.specs.Marks.{targetOf}
 use borrow.Author.Needs.{needs}
 use borrow.Author.Tests.{le-leb, lt-leb}
 use Rattle.builder.proofs.Builder.current_jump_target.Statement.{statement}

@@ -1,6 +1,6 @@
 -- `builder::Builder::emit_i8` meets its contract: the helper's promise; a number is what its bits say.
 -- Assumes nothing.
-use Rattle.builder.specs.Emit.{emitNamed}
+use Rattle.builder.specs.Emission.{emitNamed}
 use borrow.Author.Needs.{needs}
 use mathlib.Core.List.{[]}
 use mathlib.Core.Path.{_∙_, ap}

@@ -1,7 +1,7 @@
 -- `builder::Builder::emit_jump` meets its contract: each plan is what the model says.
 -- Assumes nothing.
 use Rattle.builder.proofs.JumpPlans.{emitted-jump, jump-goes}
-use Rattle.builder.specs.declared.Plan.the-variants.{Go, Idle, Refuse}
+use Rattle.builder.specs.declared.plan.Plan.the-variants.{Go, Idle, Refuse}
 use borrow.Author.Needs.{needs}
 use mathlib.Core.Path.{_∙_, sym}
 use Rattle.builder.proofs.Builder.emit_jump.Statement.{statement}

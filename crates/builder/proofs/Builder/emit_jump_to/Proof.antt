@@ -1,7 +1,7 @@
 -- `builder::Builder::emit_jump_to` meets its contract: the state around the core's outcome, for each kind of target.
 -- Assumes nothing.
-use Rattle.builder.specs.Emit.{outcomeBy}
-use Rattle.builder.specs.Jumps.{emitJumpToOf}
+use Rattle.builder.specs.Emission.{outcomeBy}
+use Rattle.builder.specs.Back.{emitJumpToOf}
 use mathlib.Core.Path.{ap}
 use borrow.Author.Needs.{needs}
 use Rattle.builder.proofs.Builder.emit_jump_to.Statement.{statement}

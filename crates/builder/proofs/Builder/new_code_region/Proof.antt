@@ -1,6 +1,6 @@
 -- `builder::Builder::new_code_region` meets its contract: its tests are the definition's.
 -- Assumes nothing.
-use Rattle.builder.specs.Calls.{regionOf}
+use Rattle.builder.specs.Regions.{regionOf}
 use borrow.Author.Needs.{needs}
 use borrow.Author.Tests.{le-leb, lt-leb}
 use Rattle.builder.proofs.Builder.new_code_region.Statement.{statement}

@@ -2,8 +2,8 @@
 -- Assumes nothing.
 use Rattle.builder.proofs.PatchPlans.{markable-true, patch-writes, patched-row}
 use Rattle.builder.specs.Patch.{markPlanOf, patchJumpOf, patchPlanOf}
-use Rattle.builder.specs.declared.Mark.{Mark}
-use Rattle.builder.specs.declared.Plan.the-variants.{Go, Idle, Refuse}
+use Rattle.builder.specs.declared.marks.Mark.{Mark}
+use Rattle.builder.specs.declared.patch.PatchPlan.the-variants.{Go, Idle, Refuse}
 use borrow.Author.Needs.{needs}
 use borrow.Author.Tests.{not-false, not-true}
 use Rattle.builder.specs.Marks.{markIn, markable}

@@ -3,7 +3,7 @@
 use Prim.Native.Nat.{_-_}
 use Rattle.builder.proofs.Naming.{extension-fits}
 use Rattle.builder.proofs.Putting.{put-lent}
-use Rattle.builder.specs.Calls.{extension, registerNameOf}
+use Rattle.builder.specs.Names.{extension, registerNameOf}
 use borrow.Author.Needs.{needs}
 use borrow.Author.Tests.{le-leb, le-ltb, lt-leb, lt-ltb}
 use lib.ListN.{length}

@@ -1,7 +1,8 @@
 -- `builder::Builder::register_local_names` meets its contract: its tests are the definition's, and the names stand at the front.
 -- Assumes nothing.
 use Rattle.builder.proofs.Putting.{put-front}
-use Rattle.builder.specs.Calls.{kept, registerNamesOf}
+use Rattle.builder.specs.State.{kept}
+use Rattle.builder.specs.Names.{registerNamesOf}
 use borrow.Author.Needs.{needs}
 use borrow.Author.Tests.{eq-eqb, le-leb, lt-leb, ne-eqb}
 use mathlib.Core.Path.{ap}

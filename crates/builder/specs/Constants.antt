@@ -1,0 +1,46 @@
+-- Constants: document 01, refusal 9.
+-- Assumes nothing.
+use mathlib.Core.List.{List, [], _∷_}
+use Prim.Native.Nat.{ℕ, _+_}
+use lib.Dec.{leb, ltb}
+use lib.ListN.{length}
+use Rattle.op.specs.Choice.{pick}
+use Rattle.op.specs.declared.Refusal.the-variants.{TooManyConstants, Full, Unsound}
+use Rattle.op.specs.declared.Table.the-variants.{Constants}
+use Rattle.builder.specs.declared.Added.{Added}
+use Rattle.builder.specs.declared.Added.the-variants as N
+use Rattle.builder.specs.declared.Builder.{Builder}
+use Rattle.builder.specs.Tables.{put, wordMax}
+use Rattle.builder.specs.State.{countsOf}
+
+-- the answer, and the constants as the call leaves them
+pub record AddedKept : Type 0 where
+  pub answer : Added
+  pub cells : List ℕ
+
+abbrev pub addedKept : (answer : Added) (cells : List ℕ) → AddedKept
+addedKept answer cells = record { answer = answer; cells = cells }
+
+-- the same state with so many constants
+abbrev pub withConstants : (builder : Builder) (constants : ℕ) → Builder
+withConstants builder constants = record {
+  core = builder .core;
+  location = builder .location;
+  exceptions = builder .exceptions;
+  constants = constants;
+  names = builder .names;
+  starts = builder .starts;
+}
+
+-- 19, "65,536 or more constants already held", 18; the value at the used end, and its index
+unfoldable pub addConstOf : (builder : Builder) (value : ℕ) (cells : List ℕ) → AddedKept
+addConstOf builder value cells =
+    pick (countsOf builder (leb (builder .constants) (length cells)))
+    (pick (leb (builder .constants) wordMax)
+    (pick (ltb (builder .constants) (length cells))
+    (addedKept
+    (N.Made (withConstants builder (builder .constants + 1)) (builder .constants))
+    (put (builder .constants) (value ∷ []) cells))
+    (addedKept (N.Refused (Full Constants)) cells))
+    (addedKept (N.Refused TooManyConstants) cells))
+    (addedKept (N.Refused Unsound) cells)

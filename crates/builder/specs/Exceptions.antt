@@ -1,0 +1,47 @@
+-- Exceptions: document 01, "Lent tables" (exceptions), refusal 10.
+-- Assumes nothing.
+use mathlib.Core.Bool.{Bool, _&&_}
+use mathlib.Core.List.{List, [], _∷_}
+use Prim.Native.Nat.{ℕ, _+_, _*_}
+use lib.Dec.{leb}
+use lib.ListN.{length}
+use Rattle.op.specs.declared.Refusal.the-variants.{TooLarge, Full, Unsound}
+use Rattle.op.specs.declared.Table.the-variants.{Exceptions}
+use Rattle.code.specs.Entries.{kindNumber}
+use Rattle.code.specs.declared.HandlerKind.{HandlerKind}
+use Rattle.builder.specs.declared.Answer.the-variants.{Accepted}
+use Rattle.builder.specs.declared.Builder.{Builder}
+use Rattle.builder.specs.Tables.{exceptionCells, put, rowFree, rowsIn}
+use Rattle.builder.specs.State.{Kept, countsOf, kept, unless}
+
+-- 10, "exception offset over 4,294,967,295"
+abbrev pub offsetMax : ℕ
+offsetMax = 4294967295
+
+unfoldable pub offsetsFit : (start end handler : ℕ) → Bool
+offsetsFit start end handler = leb start offsetMax && leb end offsetMax && leb handler offsetMax
+
+-- "start, end, handler, depth, exception count, kind"
+abbrev pub exceptionRow : (start end handler depth count : ℕ) (kind : HandlerKind) → List ℕ
+exceptionRow start end handler depth count kind = start ∷ end ∷ handler ∷ depth ∷ count ∷ kindNumber kind ∷ []
+
+-- the same state with so many exceptions
+abbrev pub withExceptions : (builder : Builder) (exceptions : ℕ) → Builder
+withExceptions builder exceptions = record {
+  core = builder .core;
+  location = builder .location;
+  exceptions = exceptions;
+  constants = builder .constants;
+  names = builder .names;
+  starts = builder .starts;
+}
+
+-- 19, 10, 18; the row at the used end
+unfoldable pub addExceptionOf : (builder : Builder) (start end handler depth count : ℕ) (kind : HandlerKind)
+    (cells : List ℕ) → Kept
+addExceptionOf builder start end handler depth count kind cells =
+    unless (countsOf builder (rowsIn exceptionCells (builder .exceptions) (length cells))) Unsound cells
+    (unless (offsetsFit start end handler) TooLarge cells
+    (unless (rowFree exceptionCells (builder .exceptions) (length cells)) (Full Exceptions) cells
+    (kept (Accepted (withExceptions builder (builder .exceptions + 1)))
+    (put (builder .exceptions * exceptionCells) (exceptionRow start end handler depth count kind) cells))))

@@ -1,0 +1,59 @@
+-- Regions: document 01, "A new builder told live at d stores start (0, d), or answers 18 alone; `new_code_region`
+-- stores a start".
+-- Assumes nothing.
+use mathlib.Core.List.{List, [], _∷_}
+use Prim.Native.Nat.{ℕ, _+_, _*_}
+use lib.ListN.{length}
+use Rattle.op.specs.declared.Refusal.the-variants.{RegionWhileLive, Full, Unsound}
+use Rattle.op.specs.declared.Table.the-variants.{Starts}
+use Rattle.builder.specs.declared.Answer.the-variants.{Accepted, Refused}
+use Rattle.builder.specs.declared.Builder.{Builder}
+use Rattle.builder.specs.declared.Depth.{Depth}
+use Rattle.builder.specs.declared.Depth.the-variants.{Dead, Live}
+use Rattle.builder.specs.declared.Location.the-variants.{Unset}
+use Rattle.builder.specs.Tables.{put, rowFree, rowsIn, startCells}
+use Rattle.builder.specs.State.{Kept, countsOf, kept, unless, withDepth}
+
+-- a builder with nothing in it
+abbrev pub freshAt : (depth : Depth) (starts : ℕ) → Builder
+freshAt depth starts = record {
+  core = record { code = 0; locations = 0; marks = 0; depth = depth };
+  location = Unset;
+  exceptions = 0;
+  constants = 0;
+  names = 0;
+  starts = starts;
+}
+
+-- "A new builder told live at d stores start (0, d), or answers 18 alone"
+unfoldable pub newOf : (told : Depth) (starts : List ℕ) → Kept
+newOf Dead starts = kept (Accepted (freshAt Dead 0)) starts
+newOf (Live depth) starts =
+    unless (rowFree startCells 0 (length starts)) (Full Starts) starts
+    (kept (Accepted (freshAt (Live depth) 1)) (put 0 (0 ∷ depth ∷ []) starts))
+
+-- the same state with so many starts, live at a depth
+abbrev pub opened : (builder : Builder) (depth starts : ℕ) → Builder
+opened builder depth starts = record {
+  core = withDepth (builder .core) (Live depth);
+  location = builder .location;
+  exceptions = builder .exceptions;
+  constants = builder .constants;
+  names = builder .names;
+  starts = starts;
+}
+
+-- 15, 18
+abbrev pub regionAt : (here : Depth) (builder : Builder) (depth : ℕ) (starts : List ℕ) → Kept
+regionAt (Live here) builder depth starts = kept (Refused RegionWhileLive) starts
+regionAt Dead builder depth starts =
+    unless (rowFree startCells (builder .starts) (length starts)) (Full Starts) starts
+    (kept
+    (Accepted (opened builder depth (builder .starts + 1)))
+    (put (builder .starts * startCells) (builder .core .code ∷ depth ∷ []) starts))
+
+-- "`new_code_region` stores a start"
+unfoldable pub regionOf : (builder : Builder) (depth : ℕ) (starts : List ℕ) → Kept
+regionOf builder depth starts =
+    unless (countsOf builder (rowsIn startCells (builder .starts) (length starts))) Unsound starts
+    (regionAt (builder .core .depth) builder depth starts)
