@@ -13,7 +13,16 @@ mod reference;
 mod script;
 mod tally;
 
-use std::{env, process::ExitCode, time::Instant};
+use std::{
+    env,
+    process::ExitCode,
+    sync::{
+        Mutex,
+        atomic::{AtomicUsize, Ordering},
+    },
+    thread,
+    time::Instant,
+};
 
 use random::Random;
 use tally::Tally;
@@ -45,8 +54,7 @@ fn main() -> ExitCode {
     original::hush_caught_panics();
     original::check_build();
     println!("compare: seed {seed}{}", if quick { ", quick" } else { "" });
-    let random = Random::new(seed);
-    if run_areas(Plan { quick, random }) {
+    if run_areas(quick, seed) {
         ExitCode::SUCCESS
     } else {
         ExitCode::FAILURE
@@ -69,21 +77,54 @@ fn read_arguments() -> Result<(bool, u64), String> {
     Ok((quick, seed))
 }
 
-/// Runs every area and says what it compared; true where there was something in each, and no difference.
-fn run_areas(mut plan: Plan) -> bool {
-    let (mut comparisons, mut differences, mut empty) = (0, 0, 0);
-    for (name, run) in areas::ALL {
-        let begun = Instant::now();
-        let mut tally = Tally::new(name);
-        run(&mut tally, &mut plan);
-        println!("{tally}, {:.1} s", begun.elapsed().as_secs_f64());
-        comparisons += tally.comparisons();
-        differences += tally.differences();
-        if tally.is_empty() {
-            println!("compare: {name} compared nothing");
-            empty += 1;
+/// Runs every area, as many at a time as there are processors, and says what each compared; true where there was something in
+/// each, and no difference. The longest begin first. An area has random numbers of its own, so that it is the same run beside
+/// any others.
+fn run_areas(quick: bool, seed: u64) -> bool {
+    let begun = AtomicUsize::new(areas::ALL.len());
+    let totals = Mutex::new(Totals::default());
+    let workers = thread::available_parallelism().map_or(1, usize::from);
+    thread::scope(|scope| {
+        for _ in 0..workers {
+            scope.spawn(|| {
+                while let Ok(left) = begun.fetch_update(Ordering::Relaxed, Ordering::Relaxed, |n| n.checked_sub(1)) {
+                    let (name, run) = areas::ALL[left - 1];
+                    let random = Random::new(seed ^ (left as u64) << 32);
+                    let told = run_area(name, run, Plan { quick, random });
+                    totals.lock().expect("no area panics").add(&told);
+                }
+            });
         }
+    });
+    let totals = totals.into_inner().expect("no area panics");
+    println!("compare: {} comparisons, {} differences", totals.comparisons, totals.differences);
+    totals.differences == 0 && totals.empty == 0
+}
+
+/// Runs one area and prints its line.
+fn run_area(name: &'static str, run: areas::Area, mut plan: Plan) -> Tally {
+    let begun = Instant::now();
+    let mut tally = Tally::new(name);
+    run(&mut tally, &mut plan);
+    println!("{tally}, {:.1} s", begun.elapsed().as_secs_f64());
+    if tally.is_empty() {
+        println!("compare: {name} compared nothing");
     }
-    println!("compare: {comparisons} comparisons, {differences} differences");
-    differences == 0 && empty == 0
+    tally
+}
+
+/// What all areas come to.
+#[derive(Default)]
+struct Totals {
+    comparisons: u64,
+    differences: u64,
+    empty: u64,
+}
+
+impl Totals {
+    fn add(&mut self, tally: &Tally) {
+        self.comparisons += tally.comparisons();
+        self.differences += tally.differences();
+        self.empty += u64::from(tally.is_empty());
+    }
 }

@@ -23,7 +23,7 @@ mod write;
 
 use crate::{Plan, original, tally::Tally};
 
-type Area = fn(&mut Tally, &mut Plan);
+pub type Area = fn(&mut Tally, &mut Plan);
 
 pub const ALL: [(&str, Area); 18] = [
     ("shape", shape::run),
