@@ -8,6 +8,7 @@ use Prim.Native.Nat.{ℕ, suc, _≤_, _<_}
 use native.Mathlib.Decide.{decLe}
 use native.Mathlib.Omega.{arith}
 use lib.ListN.{length, drop, getD, List·getD-append}
+use Rattle.op.specs.Opcodes.{lastOpcode}
 use Rattle.code.specs.Depths.{Smallest, Derived}
 use Rattle.code.proofs.Assigning.{smallest-agree}
 use Rattle.code.proofs.Counting.{counts-one}
@@ -36,7 +37,7 @@ cell-of c o none e l = elim (decLe (cell c o) 65535) [
 ]
 
 module _ (b : Book isa) (g : Good isa laws b) (closed : (r : Row isa) → Mem r (b .rows) → Closed isa laws (r .offset) (r .what)) where
-  checked : b .len ≤ codeLimit → (d d′ : List ℕ) (r : Checked) → b .len < length d → Promise (bytesOf isa (b .rows)) (cells (b .starts)) d d′ r
+  checked : b .len ≤ codeLimit → (d d′ : List ℕ) (r : Checked) → b .len < length d → Promise lastOpcode (bytesOf isa (b .rows)) (cells (b .starts)) d d′ r
       → (r ≡ C.Accepted (length (b .rows))) × ((o : ℕ) → o ≤ b .len → cell d′ o ≡ cellOf (depths b g closed o))
   checked short d d′ r room P =
       let z : length (bytesOf isa (b .rows)) ≡ b .len = code-length (b .rows) (b .len) (g .chain) closed in
@@ -51,12 +52,12 @@ module _ (b : Book isa) (g : Good isa laws b) (closed : (r : Row isa) → Mem r 
 
   -- the same of any names for the bytes, the starts' cells and the length
   module _ (s st : List ℕ) (n : ℕ) (es : s ≡ bytesOf isa (b .rows)) (et : st ≡ cells (b .starts)) (en : n ≡ b .len) where
-    pub smallest-at : Smallest s st (λ o. depthAt isa (b .rows) n (b .cur) o)
+    pub smallest-at : Smallest lastOpcode s st (λ o. depthAt isa (b .rows) n (b .cur) o)
     smallest-at = rw (es, et, en) (least b g closed)
 
-    pub derived-at : (o d : ℕ) → (depthAt isa (b .rows) n (b .cur) o ≡ some d) ↔ Derived s st o d
+    pub derived-at : (o d : ℕ) → (depthAt isa (b .rows) n (b .cur) o ≡ some d) ↔ Derived lastOpcode s st o d
     derived-at o d = rw (es, et, en) (derives b g closed o d)
 
-    pub checked-at : b .len ≤ codeLimit → (d d′ : List ℕ) (r : Checked) → n < length d → Promise s st d d′ r
+    pub checked-at : b .len ≤ codeLimit → (d d′ : List ℕ) (r : Checked) → n < length d → Promise lastOpcode s st d d′ r
         → (r ≡ C.Accepted (length (b .rows))) × ((o : ℕ) → o ≤ n → cell d′ o ≡ cellOf (depthAt isa (b .rows) n (b .cur) o))
     checked-at short = rw (es, et, en) (checked short)

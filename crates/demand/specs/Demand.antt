@@ -10,6 +10,7 @@ use mathlib.Core.Option.{Option, some, none}
 use Prim.Native.Nat.{ℕ, _*_, _≤_, _<_}
 use contract.Lifetimes.{Lfts}
 use lib.ListN.{length, take}
+use Rattle.op.specs.Opcodes.{lastOpcode}
 use Rattle.code.specs.Depths.{Smallest, Derived}
 use Rattle.builder.specs.Tables.{startCells}
 use Rattle.builder.specs.declared.Answer.the-variants.{Accepted}
@@ -79,10 +80,10 @@ pub record Demand (w w′ : World) (h : History) : Type 0 where
   -- "one at each instruction": the depth that the builder had before it
   pub before : (r : Row isa) → List·Memᴰ r (h .rows) → depths w′ h (r .offset) ≡ some (r .depth)
   -- "the depths derived from those bytes and the region starts alone": the smallest assignment, and just what paths from the starts lead to
-  pub smallest : Smallest (finished w′) (regionStarts w′) (depths w′ h)
-  pub derived : (o d : ℕ) → (depths w′ h o ≡ some d) ↔ Derived (finished w′) (regionStarts w′) o d
+  pub smallest : Smallest lastOpcode (finished w′) (regionStarts w′) (depths w′ h)
+  pub derived : (o d : ℕ) → (depths w′ h o ≡ some d) ↔ Derived lastOpcode (finished w′) (regionStarts w′) o d
   -- so a check of those bytes and starts accepts, with those depths and with as many instructions
-  pub checks : (d d′ : List ℕ) (r : Checked) → length (finished w′) < length d → Promise (finished w′) (regionStarts w′) d d′ r
+  pub checks : (d d′ : List ℕ) (r : Checked) → length (finished w′) < length d → Promise lastOpcode (finished w′) (regionStarts w′) d d′ r
       → (r ≡ C.Accepted (length (h .rows))) × ((o : ℕ) → o ≤ length (finished w′) → cell d′ o ≡ cellOf (depths w′ h o))
 
 -- the demand: of every fresh builder, all calls taken from there, and a `build` that is accepted
