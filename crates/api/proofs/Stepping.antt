@@ -6,6 +6,7 @@ use Prim.Native.Nat.{ℕ, _+_, _-_, _*_, _<_}
 use lib.IntN.{ℤ}
 use lib.ListN.{getD}
 use mir.Syntax.{w8, w16}
+use Rattle.op.specs.Opcodes.{lastOpcode}
 use Rattle.op.specs.Shapes.{shapeNumber, operandShape}
 use Rattle.op.specs.declared.Operand.{Operand}
 use Rattle.op.specs.declared.Operand.the-variants as O
@@ -53,5 +54,6 @@ given-back (O.CallAttrKw attribute positional n) h = sym (fits positional (Is (O
 given-back (O.U16U16U8 a b c) h = refl
 
 -- so do those that a step tells
-pub step-given : (u : List ℕ) → ((i : ℕ) → getD u i 0 < 256) → (at k : ℕ) (o : Operand) (z : ℕ) → decode at u ≡ Instr k o z → regiven o ≡ Is o
-step-given u bytes at k o z e = given-back o (decoded-range u bytes k o z (decoded at u k o z e))
+pub step-given : (u : List ℕ) → ((i : ℕ) → getD u i 0 < 256) → (at k : ℕ) (o : Operand) (z : ℕ)
+    → decode lastOpcode at u ≡ Instr k o z → regiven o ≡ Is o
+step-given u bytes at k o z e = given-back o (decoded-range u bytes k o z (decoded _ at u k o z e))

@@ -7,15 +7,16 @@ use Prim.Native.Nat.{ℕ, _<_}
 use lib.ListN.{length}
 use borrow.Author.Tests.{lt-leb}
 use Rattle.op.specs.Choice.{pick}
-use Rattle.op.specs.Opcodes.{known, rowOf}
-use Rattle.op.specs.Shapes.{shapeOf, shapeIn}
+use Rattle.op.specs.Opcodes.{lastOpcode, known, rowOf}
+use Rattle.op.specs.Shapes.{shapeOf, shapeIn, operandShape}
 use Rattle.op.specs.declared.Operand.{Operand}
 use Rattle.op.specs.declared.Refusal.the-variants.{UnknownOpcode, TooManyKeywords}
 use Rattle.code.specs.Encode.{encode, writtenOf, filled, SignsFit}
 use Rattle.code.specs.declared.Written.{Written}
 use Rattle.code.specs.declared.Written.the-variants as W
 use Rattle.code.specs.Decode.{decode}
-use Rattle.code.proofs.Writing.{written-unknown, written-many, written-decodes}
+use Rattle.code.proofs.Decoding.{shape-known}
+use Rattle.code.proofs.Writing.{written-unknown, written-many, goes, written-decodes}
 use Rattle.api.specs.Answers.{refused}
 use Rattle.api.specs.Steps.{unwritten, writtenAnswer, WritesGiven, instruction, stepTold}
 use Rattle.api.specs.Told.{numbers}
@@ -53,6 +54,9 @@ writes-as k g g′ names out answer out′ e h = rw e at h
 
 -- what was written, a step tells, wherever it is read
 pub written-told : (k : ℕ) (o : Operand) (names out : List ℕ) (answer : ℕ) (out′ : List ℕ) (z : ℕ) → WritesGiven k (G.Is o) names out answer out′
-    → writtenOf k o (length names) (length out) ≡ W.Size z → SignsFit o → (at : ℕ) → stepTold at (decode at out′) ≡ numbers (instruction at k o z)
+    → writtenOf k o (length names) (length out) ≡ W.Size z → SignsFit o → (at : ℕ)
+    → stepTold at (decode lastOpcode at out′) ≡ numbers (instruction at k o z)
 written-told k o names out answer out′ z w e signs at =
-    ap (stepTold at) (written-decodes k o names out (W.Size z) out′ (record { answers = sym e; cells = w .cells }) z refl signs at)
+    let g = goes k o (length names) (length out) z e in
+    let l = shape-known k (operandShape o) (g .shape) in
+    ap (stepTold at) (written-decodes k o names out (W.Size z) out′ (record { answers = sym e; cells = w .cells }) z refl signs lastOpcode l at)

@@ -6,7 +6,7 @@ use lib.Dec.{leb}
 use lib.ListN.{length}
 use Rattle.op.specs.Choice.{pick}
 use Rattle.op.specs.Names.{nameOf}
-use Rattle.op.specs.Opcodes.{known}
+use Rattle.op.specs.Opcodes.{lastOpcode, known}
 use Rattle.op.specs.Refusals.{numberOf}
 use Rattle.op.specs.Shapes.{shapeNumber, sizeOf}
 use Rattle.op.specs.declared.After.{After}
@@ -79,4 +79,4 @@ counted (C.Stopped n r) = refused r
 
 -- 10 first
 unfoldable pub countAnswer : List ℕ → ℕ
-countAnswer code = pick (leb (length code) greatest) (counted (countOf code)) (refused TooLarge)
+countAnswer code = pick (leb (length code) greatest) (counted (countOf lastOpcode code)) (refused TooLarge)

@@ -3,6 +3,7 @@
 // include/tokenfinch.h declares these functions and says in words what they promise here.
 ghost use mathlib.Core.Path.{_≡_};
 ghost use lib.ListN.{length, drop};
+ghost use Rattle.op.specs.Opcodes.{lastOpcode};
 ghost use Rattle.op.specs.Shapes.{shapeOf};
 ghost use Rattle.op.specs.Effects.{takenOf, netOf, deadnessOf};
 ghost use Rattle.op.specs.Depths.{takenDepthOf};
@@ -182,7 +183,7 @@ pub extern "C" fn tf_count_instructions(code: &[u8]) -> u64
 
 #[no_mangle]
 pub extern "C" fn tf_step(code: &[u8], at: usize, out: &mut [u64]) -> u64
-    ensures { λ r. ⌜ Tells (stepTold at (decode at (drop at (now (code .entry))))) (now (out .entry)) r (now (out .exit)) ⌝ }
+    ensures { λ r. ⌜ Tells (stepTold at (decode lastOpcode at (drop at (now (code .entry))))) (now (out .entry)) r (now (out .exit)) ⌝ }
 {
     let step = code::decoder::step_at(code, at);
     match step {

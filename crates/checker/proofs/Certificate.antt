@@ -100,89 +100,90 @@ module _ (c : List ℕ) (o d : ℕ) (f : Flow) where
 
 -- the test
 
-abbrev pub startOk : List ℕ → List ℕ → ℕ → Bool
-startOk s st k = both (leb (getD st (2 * k + 1) 0) 65535) (walksTo (suc (length s)) s (getD st (2 * k) 0) 0)
+abbrev pub startOk : ℕ → List ℕ → List ℕ → ℕ → Bool
+startOk last s st k = both (leb (getD st (2 * k + 1) 0) 65535) (walksTo last (suc (length s)) s (getD st (2 * k) 0) 0)
 
 -- the code has no fault, and the start list can be
-abbrev pub inputOk : List ℕ → List ℕ → Bool
-inputOk s st = both (ends (suc (length s)) s 0) (both (eqb (length st % 2) 0) (everyFrom (startOk s st) 0 (length st / 2)))
+abbrev pub inputOk : ℕ → List ℕ → List ℕ → Bool
+inputOk last s st = both (ends last (suc (length s)) s 0) (both (eqb (length st % 2) 0) (everyFrom (startOk last s st) 0 (length st / 2)))
 
-abbrev pub depthOk : List ℕ → List ℕ → List ℕ → ℕ → ℕ → Bool
-depthOk s st c k o = both (has o (cell c o) (reached s st k)) (both (walksTo (suc (length s)) s o 0) (keptOk c o (cell c o) (flowOf o (drop o s))))
+abbrev pub depthOk : ℕ → List ℕ → List ℕ → List ℕ → ℕ → ℕ → Bool
+depthOk last s st c k o = both (has o (cell c o) (reached last s st k)) (both (walksTo last (suc (length s)) s o 0) (keptOk c o (cell c o) (flowOf last o (drop o s))))
 
 -- a cell holds 65,536, or a depth that k steps lead to, at a place, and that is respected
-abbrev pub cellOk : List ℕ → List ℕ → List ℕ → ℕ → ℕ → Bool
-cellOk s st c k o = both (leb (cell c o) 65536) (pick (leb (cell c o) 65535) (depthOk s st c k o) true)
+abbrev pub cellOk : ℕ → List ℕ → List ℕ → List ℕ → ℕ → ℕ → Bool
+cellOk last s st c k o = both (leb (cell c o) 65536) (pick (leb (cell c o) 65535) (depthOk last s st c k o) true)
 
 abbrev pub startHeld : List ℕ → List ℕ → ℕ → Bool
 startHeld st c k = eqb (cell c (getD st (2 * k) 0)) (getD st (2 * k + 1) 0)
 
-unfoldable pub certificate : List ℕ → List ℕ → List ℕ → ℕ → Bool
-certificate s st c k =
-    both (inputOk s st)
+unfoldable pub certificate : ℕ → List ℕ → List ℕ → List ℕ → ℕ → Bool
+certificate last s st c k =
+    both (inputOk last s st)
     (both (eqb (length c) (suc (length s)))
     (both (everyFrom (startHeld st c) 0 (length st / 2))
-    (everyFrom (cellOk s st c k) 0 (length c))))
+    (everyFrom (cellOk last s st c k) 0 (length c))))
 
-module _ (s st : List ℕ) (t : T (inputOk s st)) where
-  t2 : T (both (eqb (length st % 2) 0) (everyFrom (startOk s st) 0 (length st / 2)))
-  t2 = right (ends (suc (length s)) s 0) (both (eqb (length st % 2) 0) (everyFrom (startOk s st) 0 (length st / 2))) t
+module _ (last : ℕ) (s st : List ℕ) (t : T (inputOk last s st)) where
+  t2 : T (both (eqb (length st % 2) 0) (everyFrom (startOk last s st) 0 (length st / 2)))
+  t2 = right (ends last (suc (length s)) s 0) (both (eqb (length st % 2) 0) (everyFrom (startOk last s st) 0 (length st / 2))) t
 
-  pub input-whole : NoFault s
-  input-whole = ends-whole (suc (length s)) s 0 (walking-none s) (left (ends (suc (length s)) s 0) (both (eqb (length st % 2) 0) (everyFrom (startOk s st) 0 (length st / 2))) t)
+  pub input-whole : NoFault last s
+  input-whole = ends-whole (suc (length s)) s 0 (walking-none s) (left (ends last (suc (length s)) s 0) (both (eqb (length st % 2) 0) (everyFrom (startOk last s st) 0 (length st / 2))) t)
 
-  pub input-listed : Listed s st
+  pub input-listed : Listed last s st
   input-listed = record {
-    even = eqb→eq (length st % 2) 0 (left (eqb (length st % 2) 0) (everyFrom (startOk s st) 0 (length st / 2)) t2);
+    even = eqb→eq (length st % 2) 0 (left (eqb (length st % 2) 0) (everyFrom (startOk last s st) 0 (length st / 2)) t2);
     good = λ k l.
-        let i = in-range (startOk s st) 0 (length st / 2) k (omega arith) (omega arith) (right (eqb (length st % 2) 0) (everyFrom (startOk s st) 0 (length st / 2)) t2) in
+        let i = in-range (startOk last s st) 0 (length st / 2) k (omega arith) (omega arith) (right (eqb (length st % 2) 0) (everyFrom (startOk last s st) 0 (length st / 2)) t2) in
         let a = leb (getD st (2 * k + 1) 0) 65535 in
-        let b = walksTo (suc (length s)) s (getD st (2 * k) 0) 0 in
+        let b = walksTo last (suc (length s)) s (getD st (2 * k) 0) 0 in
         (leb→le (getD st (2 * k + 1) 0) 65535 (left a b i), walks-place (suc (length s)) s (getD st (2 * k) 0) 0 first (right a b i));
   }
 
 -- what the test shows
 
-pub record Certified (s st c : List ℕ) : Type 0 where
-  pub whole : NoFault s
-  pub listed : Listed s st
-  pub solution : Solution s st c (held (take (length s) c))
+pub record Certified (last : ℕ) (s st c : List ℕ) : Type 0 where
+  pub whole : NoFault last s
+  pub listed : Listed last s st
+  pub solution : Solution last s st c (held (take (length s) c))
 
-module _ (s st c : List ℕ) (k : ℕ) (input : T (inputOk s st)) (size : T (eqb (length c) (suc (length s))))
-    (firsts : T (everyFrom (startHeld st c) 0 (length st / 2))) (cells : T (everyFrom (cellOk s st c k) 0 (length c))) where
-  cell-ok : (o : ℕ) → o < length c → T (cellOk s st c k o)
-  cell-ok o l = in-range (cellOk s st c k) 0 (length c) o (omega arith) (omega arith) cells
+module _ (last : ℕ) (s st c : List ℕ) (k : ℕ) (input : T (inputOk last s st)) (size : T (eqb (length c) (suc (length s))))
+    (firsts : T (everyFrom (startHeld st c) 0 (length st / 2))) (cells : T (everyFrom (cellOk last s st c k) 0 (length c))) where
+  cell-ok : (o : ℕ) → o < length c → T (cellOk last s st c k o)
+  cell-ok o l = in-range (cellOk last s st c k) 0 (length c) o (omega arith) (omega arith) cells
 
   cell-small : (o : ℕ) → cell c o ≤ 65536
   cell-small o = elim (decLt o (length c)) [
-    | yes l ↦ leb→le (cell c o) 65536 (left (leb (cell c o) 65536) (pick (leb (cell c o) 65535) (depthOk s st c k o) true) (cell-ok o l))
+    | yes l ↦ leb→le (cell c o) 65536 (left (leb (cell c o) 65536) (pick (leb (cell c o) 65535) (depthOk last s st c k o) true) (cell-ok o l))
     | no l ↦ (let z : cell c o ≡ 65536 = List·getD-eq-default c 65536 (omega arith) in omega arith)
   ]
 
-  deep : (o : ℕ) → cell c o ≤ 65535 → T (depthOk s st c k o)
+  deep : (o : ℕ) → cell c o ≤ 65535 → T (depthOk last s st c k o)
   deep o h =
       let l = cell-in c o (λ z. omega arith) in
-      let t = right (leb (cell c o) 65536) (pick (leb (cell c o) 65535) (depthOk s st c k o) true) (cell-ok o l) in
-      subst (λ (b : Bool). T (pick b (depthOk s st c k o) true)) (le-leb (cell c o) 65535 h) t
+      let t = right (leb (cell c o) 65536) (pick (leb (cell c o) 65535) (depthOk last s st c k o) true) (cell-ok o l) in
+      subst (λ (b : Bool). T (pick b (depthOk last s st c k o) true)) (le-leb (cell c o) 65535 h) t
 
-  deep-rest : (o : ℕ) → cell c o ≤ 65535 → T (both (walksTo (suc (length s)) s o 0) (keptOk c o (cell c o) (flowOf o (drop o s))))
-  deep-rest o h = right (has o (cell c o) (reached s st k)) (both (walksTo (suc (length s)) s o 0) (keptOk c o (cell c o) (flowOf o (drop o s)))) (deep o h)
+  deep-rest : (o : ℕ) → cell c o ≤ 65535
+      → T (both (walksTo last (suc (length s)) s o 0) (keptOk c o (cell c o) (flowOf last o (drop o s))))
+  deep-rest o h = right (has o (cell c o) (reached last s st k)) (both (walksTo last (suc (length s)) s o 0) (keptOk c o (cell c o) (flowOf last o (drop o s)))) (deep o h)
 
-  cell-derived : (o d : ℕ) → depthIn c o ≡ some d → Derived s st o d
+  cell-derived : (o d : ℕ) → depthIn c o ≡ some d → Derived last s st o d
   cell-derived o d e =
       let i = in-depth c o d e in
-      let t = left (has o (cell c o) (reached s st k)) (both (walksTo (suc (length s)) s o 0) (keptOk c o (cell c o) (flowOf o (drop o s)))) (deep o (omega arith)) in
-      subst (λ (x : ℕ). Derived s st o x) (i .0) (reached-derived s st k o (cell c o) (has-in o (cell c o) (reached s st k) t))
+      let t = left (has o (cell c o) (reached last s st k)) (both (walksTo last (suc (length s)) s o 0) (keptOk c o (cell c o) (flowOf last o (drop o s)))) (deep o (omega arith)) in
+      subst (λ (x : ℕ). Derived last s st o x) (i .0) (reached-derived s st k o (cell c o) (has-in o (cell c o) (reached last s st k) t))
 
-  cell-place : (o d : ℕ) → depthIn c o ≡ some d → Place s o × (d ≤ 65535)
+  cell-place : (o d : ℕ) → depthIn c o ≡ some d → Place last s o × (d ≤ 65535)
   cell-place o d e =
       let i = in-depth c o d e in
-      (walks-place (suc (length s)) s o 0 first (left (walksTo (suc (length s)) s o 0) (keptOk c o (cell c o) (flowOf o (drop o s))) (deep-rest o (omega arith))), i .1)
+      (walks-place (suc (length s)) s o 0 first (left (walksTo last (suc (length s)) s o 0) (keptOk c o (cell c o) (flowOf last o (drop o s))) (deep-rest o (omega arith))), i .1)
 
-  cell-kept : (o d : ℕ) (f : Flow) → depthIn c o ≡ some d → Stands s o f → Kept (depthIn c) f o d
+  cell-kept : (o d : ℕ) (f : Flow) → depthIn c o ≡ some d → Stands last s o f → Kept (depthIn c) f o d
   cell-kept o d f e h =
       let i = in-depth c o d e in
-      let t = right (walksTo (suc (length s)) s o 0) (keptOk c o (cell c o) (flowOf o (drop o s))) (deep-rest o (omega arith)) in
+      let t = right (walksTo last (suc (length s)) s o 0) (keptOk c o (cell c o) (flowOf last o (drop o s))) (deep-rest o (omega arith)) in
       subst (λ (x : ℕ). Kept (depthIn c) f o x) (i .0) (op-kept c o (cell c o) f (subst (λ (x : Flowing). T (keptOk c o (cell c o) x)) (h .is) t))
 
   start-held : (o d : ℕ) → Begins st o d → depthIn c o ≡ some d
@@ -191,52 +192,54 @@ module _ (s st c : List ℕ) (k : ℕ) (input : T (inputOk s st)) (size : T (eqb
       let l = B .inside in
       let t = in-range (startHeld st c) 0 (length st / 2) (B .row) (omega arith) (omega arith) firsts in
       let e = eqb→eq (cell c (getD st (2 * B .row) 0)) (getD st (2 * B .row + 1) 0) t in
-      let g = input-listed s st input .good (B .row) (B .inside) .0 in
+      let g = input-listed last s st input .good (B .row) (B .inside) .0 in
       depth-in c o d (sym (ap (cell c) (B .offset)) ∙ e ∙ B .depth) (omega (arith, g, B .depth))
 
-  cells-assign : Assigns s st (depthIn c)
+  cells-assign : Assigns last s st (depthIn c)
   cells-assign = record { places = cell-place; starts = start-held; kept = cell-kept }
 
-  pub cells-certified : Certified s st c
+  pub cells-certified : Certified last s st c
   cells-certified =
       let e : length c ≡ suc (length s) = eqb→eq (length c) (suc (length s)) size in
       record {
-        whole = input-whole s st input;
-        listed = input-listed s st input;
+        whole = input-whole last s st input;
+        listed = input-listed last s st input;
         solution = record {
           size = e;
           smallest = smallest cells-assign cell-derived;
           others = cell-small;
           derived = cell-derived;
-          count = counted c (input-whole s st input) cells-assign e;
+          count = counted c (input-whole last s st input) cells-assign e;
         };
       }
 
-pub certified : (s st c : List ℕ) (k : ℕ) → T (certificate s st c k) → Certified s st c
+pub certified : (last : ℕ) (s st c : List ℕ) (k : ℕ) → T (certificate last s st c k) → Certified last s st c
 unfolding certificate
-certified s st c k t =
-    let last = everyFrom (cellOk s st c k) 0 (length c) in
-    let third = both (everyFrom (startHeld st c) 0 (length st / 2)) last in
+certified last s st c k t =
+    let fourth = everyFrom (cellOk last s st c k) 0 (length c) in
+    let third = both (everyFrom (startHeld st c) 0 (length st / 2)) fourth in
     let second = both (eqb (length c) (suc (length s))) third in
-    let t2 = right (inputOk s st) second t in
+    let t2 = right (inputOk last s st) second t in
     let t3 = right (eqb (length c) (suc (length s))) third t2 in
-    cells-certified s st c k (left (inputOk s st) second t) (left (eqb (length c) (suc (length s))) third t2)
-    (left (everyFrom (startHeld st c) 0 (length st / 2)) last t3) (right (everyFrom (startHeld st c) 0 (length st / 2)) last t3)
+    cells-certified last s st c k (left (inputOk last s st) second t) (left (eqb (length c) (suc (length s))) third t2)
+    (left (everyFrom (startHeld st c) 0 (length st / 2)) fourth t3) (right (everyFrom (startHeld st c) 0 (length st / 2)) fourth t3)
 
 -- so every check of such code answers and leaves just this
-pub must-accept : (s st c : List ℕ) (k : ℕ) → T (certificate s st c k) → length s ≤ 1048576 → (d d′ : List ℕ) (r : Checked) → length s < length d → Promise s st d d′ r
+pub must-accept : (last : ℕ) (s st c : List ℕ) (k : ℕ) → T (certificate last s st c k) → length s ≤ 1048576
+    → (d d′ : List ℕ) (r : Checked) → length s < length d → Promise last s st d d′ r
     → (r ≡ Accepted (held (take (length s) c))) × (d′ ≡ c ++ drop (suc (length s)) d)
-must-accept s st c k t l d d′ r room P =
-    let C = certified s st c k t in
+must-accept last s st c k t l d d′ r room P =
+    let C = certified last s st c k t in
     let e = c ++ drop (suc (length s)) d in
-    promise-one s st d d′ e r (Accepted (held (take (length s) c))) P (promise-some s st d l room (C .whole) (C .listed) e c (held (take (length s) c)) (C .solution) refl)
+    promise-one last s st d d′ e r (Accepted (held (take (length s) c))) P (promise-some last s st d l room (C .whole) (C .listed) e c (held (take (length s) c)) (C .solution) refl)
 
 -- two paths of at most k steps bring two depths to one offset
-pub must-refuse : (s st : List ℕ) (k o a b : ℕ) → T (inputOk s st) → T (has o a (reached s st k)) → T (has o b (reached s st k)) → (a ≡ b → ⊥) → length s ≤ 1048576
-    → (d d′ : List ℕ) (r : Checked) → length s < length d → Promise s st d d′ r
+pub must-refuse : (last : ℕ) (s st : List ℕ) (k o a b : ℕ) → T (inputOk last s st) → T (has o a (reached last s st k))
+    → T (has o b (reached last s st k)) → (a ≡ b → ⊥) → length s ≤ 1048576
+    → (d d′ : List ℕ) (r : Checked) → length s < length d → Promise last s st d d′ r
     → (r ≡ Refused NoDepths) × (d′ ≡ replicate (suc (length s)) 65536 ++ drop (suc (length s)) d)
-must-refuse s st k o a b t ta tb n l d d′ r room P =
+must-refuse last s st k o a b t ta tb n l d d′ r room P =
     let e = replicate (suc (length s)) 65536 ++ drop (suc (length s)) d in
-    let D = reached-derived s st k o a (has-in o a (reached s st k) ta) in
-    let G = reached-derived s st k o b (has-in o b (reached s st k) tb) in
-    promise-one s st d d′ e r (Refused NoDepths) P (promise-none s st d l room (input-whole s st t) (input-listed s st t) e (clash-depths D G n) refl)
+    let D = reached-derived s st k o a (has-in o a (reached last s st k) ta) in
+    let G = reached-derived s st k o b (has-in o b (reached last s st k) tb) in
+    promise-one last s st d d′ e r (Refused NoDepths) P (promise-none last s st d l room (input-whole last s st t) (input-listed last s st t) e (clash-depths D G n) refl)

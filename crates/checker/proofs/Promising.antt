@@ -12,6 +12,7 @@ use lib.Dec.{leb}
 use lib.ListN.{length, drop, take, replicate}
 use lib.Seq.{ext-getD, length-take-le}
 use borrow.Author.Tests.{leb-true}
+use Rattle.op.specs.Opcodes.{lastOpcode}
 use Rattle.op.specs.declared.Refusal.{Refusal}
 use Rattle.op.specs.declared.Refusal.the-variants.{TooLarge, Unsound, ShortDepths, BadStarts, NoDepths}
 use Rattle.code.specs.Depths.{Faulty, Assigns, Impossible}
@@ -31,8 +32,8 @@ use Rattle.checker.proofs.Holding.{depth-in, in-depth}
 
 -- how a check keeps it
 
-module _ (s st d : List ℕ) where
-  pub promise-long : 1048576 < length s → Promise s st d d (Refused TooLarge)
+module _ (last : ℕ) (s st d : List ℕ) where
+  pub promise-long : 1048576 < length s → Promise last s st d d (Refused TooLarge)
   unfolding Promise
   promise-long l = stops TooLarge (refl, l) (refl, refl)
 
@@ -40,7 +41,7 @@ module _ (s st d : List ℕ) where
     long-not : (q : Refusal) → TooLong s q → ⊥
     long-not q h = omega (arith, h .1)
 
-    pub promise-room : length d ≤ length s → Promise s st d d (Refused ShortDepths)
+    pub promise-room : length d ≤ length s → Promise last s st d d (Refused ShortDepths)
     unfolding Promise
     promise-room l = passes long-not (stops ShortDepths (refl, l) (refl, refl))
 
@@ -48,33 +49,36 @@ module _ (s st d : List ℕ) where
       room-not : (q : Refusal) → NoRoom s d q → ⊥
       room-not q h = omega (arith, h .1)
 
-      pub promise-fault : (q : Refusal) → Faulty s q → Promise s st d d (Refused q)
+      pub promise-fault : (q : Refusal) → Faulty last s q → Promise last s st d d (Refused q)
       unfolding Promise
       promise-fault q f = passes long-not (passes room-not (stops q f (refl, refl)))
 
-      module _ (whole : NoFault s) where
-        pub promise-starts : (Listed s st → ⊥) → Promise s st d d (Refused BadStarts)
+      module _ (whole : NoFault last s) where
+        pub promise-starts : (Listed last s st → ⊥) → Promise last s st d d (Refused BadStarts)
         unfolding Promise
         promise-starts n = passes long-not (passes room-not (passes whole (stops BadStarts (refl, n) (refl, refl))))
 
-        module _ (listed : Listed s st) where
-          listed-not : (q : Refusal) → Astray s st q → ⊥
+        module _ (listed : Listed last s st) where
+          listed-not : (q : Refusal) → Astray last s st q → ⊥
           listed-not q h = h .1 listed
 
-          pub promise-none : (d′ : List ℕ) → Impossible s st → Became s d d′ (replicate (suc (length s)) 65536) → Promise s st d d′ (Refused NoDepths)
+          pub promise-none : (d′ : List ℕ) → Impossible last s st → Became s d d′ (replicate (suc (length s)) 65536)
+              → Promise last s st d d′ (Refused NoDepths)
           unfolding Promise
           promise-none d′ n b = passes long-not (passes room-not (passes whole (passes listed-not (stops NoDepths (refl, n) (refl, b)))))
 
-          pub promise-some : (d′ c : List ℕ) (k : ℕ) → Solution s st c k → Became s d d′ c → Promise s st d d′ (Accepted k)
+          pub promise-some : (d′ c : List ℕ) (k : ℕ) → Solution last s st c k → Became s d d′ c
+              → Promise last s st d d′ (Accepted k)
           unfolding Promise
           promise-some d′ c k S b = passes long-not (passes room-not (passes whole (passes listed-not
               (passes (λ q h. h .1 (depthIn c) (S .smallest .assigns)) (record { count = k; cells = c; answer = refl; solution = S; became = b })))))
 
           -- what the work on the first cells leaves, and the rest of the slice
-          pub promise-work : (c : List ℕ) (r : Checked) → Outcome s st c r → Promise s st d (c ++ drop (length s + 1) d) r
+          pub promise-work : (c : List ℕ) (r : Checked) → Outcome last s st c r
+              → Promise last s st d (c ++ drop (length s + 1) d) r
           promise-work c (Accepted k) S = promise-some (c ++ drop (length s + 1) d) c k S (ap (λ (i : ℕ). c ++ drop i d) (add-one (length s)))
           promise-work c (Refused q) h =
-              subst (λ (x : Refusal). Promise s st d (c ++ drop (length s + 1) d) (Refused x)) (sym (h .0))
+              subst (λ (x : Refusal). Promise last s st d (c ++ drop (length s + 1) d) (Refused x)) (sym (h .0))
               (promise-none (c ++ drop (length s + 1) d) (h .1) (ap (λ (x : List ℕ). x ++ drop (length s + 1) d) (h .2) ∙ ap
               (λ (i : ℕ). replicate (suc (length s)) 65536 ++ drop i d) (add-one (length s))))
 
@@ -99,7 +103,8 @@ module _ (b : Builder) (s st d : List ℕ) where
   built-unsound e = stops Unsound (refl, e) (refl, refl)
 
   pub built-used : builtSound b (length s) (length st) ≡ true → (d′ : List ℕ) (r : Checked)
-      → Promise (take (b .core .code) s) (take (b .starts * startCells) st) d d′ r → BuiltPromise b s st d d′ r
+      → Promise lastOpcode (take (b .core .code) s) (take (b .starts * startCells) st) d d′ r
+      → BuiltPromise b s st d d′ r
   unfolding BuiltPromise
   built-used e d′ r P = passes (λ q h. let z : _≡_ {A = ℕ} 0 1 = cc (e, h .1) in omega arith) P
 
@@ -113,7 +118,8 @@ past (passes n b) no-way on = on n b
 not-refused : {r : Checked} {k : ℕ} {q : Refusal} → r ≡ Accepted k → r ≡ Refused q → ⊥
 not-refused {r} {k} {q} e h = let z : _≡_ {A = ℕ} 0 1 = cc in omega arith
 
-pub accepted : {s st d d′ : List ℕ} {r : Checked} {k : ℕ} → Promise s st d d′ r → r ≡ Accepted k → Accepts s st d d′ r
+pub accepted : {last : ℕ} {s st d d′ : List ℕ} {r : Checked} {k : ℕ} → Promise last s st d d′ r → r ≡ Accepted k
+    → Accepts last s st d d′ r
 unfolding Promise
 accepted P e =
     past P (λ q a. absurd (not-refused e (a .0))) (λ n P.
@@ -128,12 +134,13 @@ passed (stops q p a) n = absurd (n q p)
 passed (passes m b) n = b
 
 -- past 10, 21, 1, 22 and 20, code is accepted when an assignment exists
-pub accepted-when : {s st d d′ : List ℕ} {r : Checked} → Promise s st d d′ r → length s ≤ 1048576 → length s < length d → NoFault s → Listed s st
-    → (a : ℕ → Option ℕ) → Assigns s st a → Accepts s st d d′ r
+pub accepted-when : {last : ℕ} {s st d d′ : List ℕ} {r : Checked} → Promise last s st d d′ r → length s ≤ 1048576
+    → length s < length d → NoFault last s → Listed last s st
+    → (a : ℕ → Option ℕ) → Assigns last s st a → Accepts last s st d d′ r
 unfolding Promise
-accepted-when {s} {st} {d} P short room whole listed a A =
-    passed (passed (passed (passed (passed P (long-not s st d short)) (room-not s st d short room)) whole)
-    (listed-not s st d short room whole listed)) (λ q h. h .1 a A)
+accepted-when {last} {s} {st} {d} P short room whole listed a A =
+    passed (passed (passed (passed (passed P (long-not last s st d short)) (room-not last s st d short room)) whole)
+    (listed-not last s st d short room whole listed)) (λ q h. h .1 a A)
 
 -- equal inputs, equal answers
 
@@ -159,7 +166,7 @@ cell-one a b o e l m = elim (decLe (cell a o) 65535) [
   ]
 ]
 
-module _ {s st c e : List ℕ} {k m : ℕ} (A : Solution s st c k) (B : Solution s st e m) where
+module _ {last : ℕ} {s st c e : List ℕ} {k m : ℕ} (A : Solution last s st c k) (B : Solution last s st e m) where
   pub solution-cells : c ≡ e
   solution-cells = ext-getD 65536 c e (A .size ∙ sym (B .size)) (λ o l. cell-one c e o (smallest-agree (A .smallest) (B .smallest) o) (A .others o) (B .others o))
 
@@ -168,7 +175,7 @@ module _ {s st c e : List ℕ} {k m : ℕ} (A : Solution s st c k) (B : Solution
 
 pub promise-one : PromiseOne
 unfolding Promise
-promise-one s st d d₁ d₂ r₁ r₂ P Q =
+promise-one last s st d d₁ d₂ r₁ r₂ P Q =
     unless-one (λ p q x y. named-one TooLarge p q (x .0) (y .0)) kept
     (unless-one (λ p q x y. named-one ShortDepths p q (x .0) (y .0)) kept
     (unless-one (λ p q x y. fault-one x y) kept
@@ -179,7 +186,7 @@ promise-one s st d d₁ d₂ r₁ r₂ P Q =
     kept : {x : List ℕ} (q : Refusal) → (r₁ ≡ Refused q) × (d₁ ≡ x) → (r₂ ≡ Refused q) × (d₂ ≡ x) → (r₁ ≡ r₂) × (d₁ ≡ d₂)
     kept q a b = (a .0 ∙ sym (b .0), a .1 ∙ sym (b .1))
 
-    both : Accepts s st d d₁ r₁ → Accepts s st d d₂ r₂ → (r₁ ≡ r₂) × (d₁ ≡ d₂)
+    both : Accepts last s st d d₁ r₁ → Accepts last s st d d₂ r₂ → (r₁ ≡ r₂) × (d₁ ≡ d₂)
     both A B =
         let e = solution-cells (A .solution) (B .solution) in
         let h = solution-count (A .solution) (B .solution) in
@@ -189,4 +196,4 @@ pub built-one : BuiltOne
 unfolding BuiltPromise
 built-one b s st d d₁ d₂ r₁ r₂ P Q =
     unless-one (λ p q x y. named-one Unsound p q (x .0) (y .0)) (λ q x y. (x .0 ∙ sym (y .0), x .1 ∙ sym (y .1)))
-    (promise-one (take (b .core .code) s) (take (b .starts * startCells) st) d d₁ d₂ r₁ r₂) P Q
+    (promise-one lastOpcode (take (b .core .code) s) (take (b .starts * startCells) st) d d₁ d₂ r₁ r₂) P Q

@@ -50,18 +50,18 @@ onward o d (F.Op f) = pick (f .falls) (gives (o + f .size) (lead d (f .net))) []
 onward o d F.End = []
 onward o d (F.Refused q) = []
 
-abbrev pub steps : List ℕ → List Given → List Given
-steps s [] = []
-steps s (given o d ∷ xs) = onward o d (flowOf o (drop o s)) ++ steps s xs
+abbrev pub steps : ℕ → List ℕ → List Given → List Given
+steps last s [] = []
+steps last s (given o d ∷ xs) = onward o d (flowOf last o (drop o s)) ++ steps last s xs
 
 abbrev pub pairs : List ℕ → List Given
 pairs [] = []
 pairs (o ∷ []) = []
 pairs (o ∷ (d ∷ st)) = given o d ∷ pairs st
 
-abbrev pub reached : List ℕ → List ℕ → ℕ → List Given
-reached s st zero = pairs st
-reached s st (suc k) = pairs st ++ steps s (reached s st k)
+abbrev pub reached : ℕ → List ℕ → List ℕ → ℕ → List Given
+reached last s st zero = pairs st
+reached last s st (suc k) = pairs st ++ steps last s (reached last s st k)
 
 abbrev pub has : ℕ → ℕ → List Given → Bool
 has o d [] = false
@@ -102,36 +102,39 @@ gives-in : (t : ℕ) (x : After) (q e : ℕ) → List·Memᴰ (given q e) (gives
 gives-in t (A.Depth g) q e m = ⊎-elim (λ z. (let a : t ≡ q = cc in let b : A.Depth g ≡ A.Depth e = cc in (a, b))) (λ j. absurd (List·Memᴰ·not-nil j)) (List·Memᴰ·cases-cons m)
 gives-in t (A.Refused r) q e m = absurd (List·Memᴰ·not-nil m)
 
-module _ (s st : List ℕ) where
-  module _ (o d : ℕ) (D : Derived s st o d) (f : Flow) (h : Stands s o f) (q e : ℕ) where
-    falls-derived : (b : Bool) → f .falls ≡ b → List·Memᴰ (given q e) (pick b (gives (o + f .size) (lead d (f .net))) []) → Derived s st q e
+module _ {last : ℕ} (s st : List ℕ) where
+  module _ (o d : ℕ) (D : Derived last s st o d) (f : Flow) (h : Stands last s o f) (q e : ℕ) where
+    falls-derived : (b : Bool) → f .falls ≡ b
+        → List·Memᴰ (given q e) (pick b (gives (o + f .size) (lead d (f .net))) []) → Derived last s st q e
     falls-derived true fl m = let g = gives-in (o + f .size) (lead d (f .net)) q e m in fall D h fl (g .1) (g .0)
     falls-derived false fl m = absurd (List·Memᴰ·not-nil m)
 
-    leaps-derived : (x : Goal) → f .goal ≡ x → List·Memᴰ (given q e) (leaps d (f .taken) x) → Derived s st q e
+    leaps-derived : (x : Goal) → f .goal ≡ x → List·Memᴰ (given q e) (leaps d (f .taken) x) → Derived last s st q e
     leaps-derived Nowhere g m = absurd (List·Memᴰ·not-nil m)
     leaps-derived (To t) g m = let i = gives-in t (lead d (f .taken)) q e m in jump D h (g ∙ ap To (i .0)) (i .1)
     leaps-derived Outside g m = absurd (List·Memᴰ·not-nil m)
 
-  onward-derived : (o d : ℕ) → Derived s st o d → (x : Flowing) → flowOf o (drop o s) ≡ x → (q e : ℕ) → List·Memᴰ (given q e) (onward o d x) → Derived s st q e
+  onward-derived : (o d : ℕ) → Derived last s st o d → (x : Flowing) → flowOf last o (drop o s) ≡ x → (q e : ℕ)
+      → List·Memᴰ (given q e) (onward o d x) → Derived last s st q e
   onward-derived o d D (F.Op f) h q e m =
-      let w : Stands s o f = record { is = h } in
+      let w : Stands last s o f = record { is = h } in
       ⊎-elim (falls-derived o d D f w q e (f .falls) refl) (leaps-derived o d D f w q e (f .goal) refl)
       (List·Memᴰ·append-cases (pick (f .falls) (gives (o + f .size) (lead d (f .net))) []) m)
   onward-derived o d D F.End h q e m = absurd (List·Memᴰ·not-nil m)
   onward-derived o d D (F.Refused r) h q e m = absurd (List·Memᴰ·not-nil m)
 
-  steps-derived : (xs : List Given) → ((o d : ℕ) → List·Memᴰ (given o d) xs → Derived s st o d) → (q e : ℕ) → List·Memᴰ (given q e) (steps s xs) → Derived s st q e
+  steps-derived : (xs : List Given) → ((o d : ℕ) → List·Memᴰ (given o d) xs → Derived last s st o d) → (q e : ℕ)
+      → List·Memᴰ (given q e) (steps last s xs) → Derived last s st q e
   steps-derived [] all q e m = absurd (List·Memᴰ·not-nil m)
   steps-derived (given o d ∷ xs) all q e m =
-      ⊎-elim (onward-derived o d (all o d (List·Memᴰ·head refl)) (flowOf o (drop o s)) refl q e)
+      ⊎-elim (onward-derived o d (all o d (List·Memᴰ·head refl)) (flowOf last o (drop o s)) refl q e)
       (steps-derived xs (λ p g j. all p g (List·Memᴰ·tail j)) q e)
-      (List·Memᴰ·append-cases (onward o d (flowOf o (drop o s))) m)
+      (List·Memᴰ·append-cases (onward o d (flowOf last o (drop o s))) m)
 
-  pub reached-derived : (k o d : ℕ) → List·Memᴰ (given o d) (reached s st k) → Derived s st o d
+  pub reached-derived : (k o d : ℕ) → List·Memᴰ (given o d) (reached last s st k) → Derived last s st o d
   reached-derived zero o d m = start (begins-in st o d m)
   reached-derived (suc k) o d m =
-      ⊎-elim (λ j. start (begins-in st o d j)) (steps-derived (reached s st k) (reached-derived k) o d) (List·Memᴰ·append-cases (pairs st) m)
+      ⊎-elim (λ j. start (begins-in st o d j)) (steps-derived (reached last s st k) (reached-derived k) o d) (List·Memᴰ·append-cases (pairs st) m)
 
 -- the walk over the code
 
@@ -141,23 +144,27 @@ walkOn more o at F.End = eqb o at
 walkOn more o at (F.Refused q) = false
 
 -- walking at most k instructions from `at` on comes to o
-abbrev pub walksTo : ℕ → List ℕ → ℕ → ℕ → Bool
-walksTo zero s o at = false
-walksTo (suc k) s o at = walkOn (walksTo k s o) o at (flowOf at (drop at s))
+abbrev pub walksTo : ℕ → ℕ → List ℕ → ℕ → ℕ → Bool
+walksTo last zero s o at = false
+walksTo last (suc k) s o at = walkOn (walksTo last k s o) o at (flowOf last at (drop at s))
 
-pub walks-place : (k : ℕ) (s : List ℕ) (o at : ℕ) → Place s at → T (walksTo k s o at) → Place s o
+pub walks-place : {last : ℕ} (k : ℕ) (s : List ℕ) (o at : ℕ) → Place last s at → T (walksTo last k s o at)
+    → Place last s o
 walks-place zero s o at p t = absurd t
-walks-place (suc k) s o at p t = one (flowOf at (drop at s)) refl (λ q. walks-place k s o q) t
+walks-place {last} (suc k) s o at p t = one (flowOf last at (drop at s)) refl (λ q. walks-place k s o q) t
   where
-    same : T (eqb o at) → Place s o
-    same t = subst (λ (x : ℕ). Place s x) (sym (eqb→eq o at t)) p
+    same : T (eqb o at) → Place last s o
+    same t = subst (λ (x : ℕ). Place last s x) (sym (eqb→eq o at t)) p
 
-    two : (b : Bool) → eqb o at ≡ b → (f : Flow) → Stands s at f → ((q : ℕ) → Place s q → T (walksTo k s o q) → Place s o)
-        → T (pick b true (walksTo k s o (at + f .size))) → Place s o
+    two : (b : Bool) → eqb o at ≡ b → (f : Flow) → Stands last s at f
+        → ((q : ℕ) → Place last s q → T (walksTo last k s o q) → Place last s o)
+        → T (pick b true (walksTo last k s o (at + f .size))) → Place last s o
     two true e f h later t = same (subst T (sym e) tt)
     two false e f h later t = later (at + f .size) (next p h refl) t
 
-    one : (x : Flowing) → flowOf at (drop at s) ≡ x → ((q : ℕ) → Place s q → T (walksTo k s o q) → Place s o) → T (walkOn (walksTo k s o) o at x) → Place s o
+    one : (x : Flowing) → flowOf last at (drop at s) ≡ x
+        → ((q : ℕ) → Place last s q → T (walksTo last k s o q) → Place last s o)
+        → T (walkOn (walksTo last k s o) o at x) → Place last s o
     one (F.Op f) e later t = two (eqb o at) refl f (record { is = e }) later t
     one F.End e later t = same t
     one (F.Refused q) e later t = absurd t
@@ -168,15 +175,17 @@ endOn more at F.End = true
 endOn more at (F.Refused q) = false
 
 -- it comes to the end
-abbrev pub ends : ℕ → List ℕ → ℕ → Bool
-ends zero s at = false
-ends (suc k) s at = endOn (ends k s) at (flowOf at (drop at s))
+abbrev pub ends : ℕ → ℕ → List ℕ → ℕ → Bool
+ends last zero s at = false
+ends last (suc k) s at = endOn (ends last k s) at (flowOf last at (drop at s))
 
-pub ends-whole : (k : ℕ) (s : List ℕ) (at : ℕ) → Walking s at → T (ends k s at) → NoFault s
+pub ends-whole : {last : ℕ} (k : ℕ) (s : List ℕ) (at : ℕ) → Walking last s at → T (ends last k s at) → NoFault last s
 ends-whole zero s at W t = absurd t
-ends-whole (suc k) s at W t = one (flowOf at (drop at s)) refl (λ q. ends-whole k s q) t
+ends-whole {last} (suc k) s at W t = one (flowOf last at (drop at s)) refl (λ q. ends-whole k s q) t
   where
-    one : (x : Flowing) → flowOf at (drop at s) ≡ x → ((q : ℕ) → Walking s q → T (ends k s q) → NoFault s) → T (endOn (ends k s) at x) → NoFault s
-    one (F.Op f) e later t = later (at + f .size) (let h : Stands s at f = record { is = e } in walking-on W (stands-sized h) (λ y. omega (arith, stands-size h))) t
+    one : (x : Flowing) → flowOf last at (drop at s) ≡ x
+        → ((q : ℕ) → Walking last s q → T (ends last k s q) → NoFault last s) → T (endOn (ends last k s) at x)
+        → NoFault last s
+    one (F.Op f) e later t = later (at + f .size) (let h : Stands last s at f = record { is = e } in walking-on W (stands-sized h) (λ y. omega (arith, stands-size h))) t
     one F.End e later t = walked-all W e
     one (F.Refused q) e later t = absurd t

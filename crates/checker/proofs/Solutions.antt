@@ -38,30 +38,31 @@ cells-none n c e o = ap (λ (x : List ℕ). cell x o) e ∙ elim (decLt o n) [
     the x = x
 
 -- sound and closed: an assignment
-pub closed : {s st c : List ℕ} → Sound s st c → ((o d : ℕ) → Begins st o d → depthIn c o ≡ some d) → ((o : ℕ) → KeptAt s c o) → Assigns s st (depthIn c)
+pub closed : {last : ℕ} {s st c : List ℕ} → Sound last s st c → ((o d : ℕ) → Begins st o d → depthIn c o ≡ some d)
+    → ((o : ℕ) → KeptAt last s c o) → Assigns last s st (depthIn c)
 closed {s} {st} {c} S B K = record {
   places = λ o d h. (let i = in-depth c o d h in (S .place o (λ z. omega arith), i .1));
   starts = B;
   kept = λ o d f h e. K o f d h e;
 }
 
-module _ {s st c₁ c₂ : List ℕ} {b : Bool} (M : Marked s c₁) (P : Placed st c₁ c₂ b) where
-  pub stuck-start : b ≡ false → Impossible s st
-  stuck-start e = P .stuck e s (marked-sound M)
+module _ {last : ℕ} {s st c₁ c₂ : List ℕ} {b : Bool} (M : Marked last s c₁) (P : Placed st c₁ c₂ b) where
+  pub stuck-start : b ≡ false → Impossible last s st
+  stuck-start e = P .stuck e last s (marked-sound M)
 
-  module _ {c₃ : List ℕ} {q : Bool} (e : b ≡ true) (Q : Settled s c₂ c₃ q) where
-    pub stuck-later : q ≡ false → Impossible s st
-    stuck-later f = Q .stuck f st (P .sound e s (marked-sound M))
+  module _ {c₃ : List ℕ} {q : Bool} (e : b ≡ true) (Q : Settled last s c₂ c₃ q) where
+    pub stuck-later : q ≡ false → Impossible last s st
+    stuck-later f = Q .stuck f st (P .sound e last s (marked-sound M))
 
-    pub settled-sound : q ≡ true → Sound s st c₃
-    settled-sound f = Q .sound f st (P .sound e s (marked-sound M))
+    pub settled-sound : q ≡ true → Sound last s st c₃
+    settled-sound f = Q .sound f st (P .sound e last s (marked-sound M))
 
-    pub settled-assigns : q ≡ true → Assigns s st (depthIn c₃)
+    pub settled-assigns : q ≡ true → Assigns last s st (depthIn c₃)
     settled-assigns f = closed (settled-sound f) (λ o d g. Q .keeps f o d (P .has e o d g)) (Q .kept f)
 
 -- the same depths in other cells
 
-module _ {s st : List ℕ} {a b : ℕ → Option ℕ} (same : (o : ℕ) → b o ≡ a o) (A : Assigns s st a) where
+module _ {last : ℕ} {s st : List ℕ} {a b : ℕ → Option ℕ} (same : (o : ℕ) → b o ≡ a o) (A : Assigns last s st a) where
   kept-same : (f : Flow) (o d : ℕ) → Kept a f o d → Kept b f o d
   kept-same f o d K =
       let N = K .falls in
@@ -70,7 +71,7 @@ module _ {s st : List ℕ} {a b : ℕ → Option ℕ} (same : (o : ℕ) → b o 
         jumps = λ j. (let J = K .jumps j in record { target = J .target; depth = J .depth; goes = J .goes; leads = J .leads; has = same (J .target) ∙ J .has });
       }
 
-  pub assigns-same : Assigns s st b
+  pub assigns-same : Assigns last s st b
   assigns-same = record {
     places = λ o d h. A .places o d (sym (same o) ∙ h);
     starts = λ o d h. same o ∙ A .starts o d h;
@@ -152,16 +153,18 @@ offsets-all i (x ∷ c) (suc j) o w l h = one (leb x 65535) (offsets-all (suc i)
     one false m = m
 
 -- an offset before the end that is a place has an instruction, where there is no fault
-stands-by : (s : List ℕ) (o : ℕ) (x : Flowing) → flowOf o (drop o s) ≡ x → NoFault s → Place s o → o < length s → (f : Flow) × Stands s o f
+stands-by : {last : ℕ} (s : List ℕ) (o : ℕ) (x : Flowing) → flowOf last o (drop o s) ≡ x → NoFault last s
+    → Place last s o → o < length s → (f : Flow) × Stands last s o f
 stands-by s o (F.Op f) e whole p l = (f, record { is = e })
-stands-by s o F.End e whole p l = absurd (omega (arith, ends-over s o e))
+stands-by {last} s o F.End e whole p l = absurd (omega (arith, ends-over last s o e))
 stands-by s o (F.Refused q) e whole p l = absurd (whole q (record { offset = o; place = p; fault = e }))
 
-module _ {s st : List ℕ} (c : List ℕ) (whole : NoFault s) (A : Assigns s st (depthIn c)) (size : length c ≡ suc (length s)) where
+module _ {last : ℕ} {s st : List ℕ} (c : List ℕ) (whole : NoFault last s) (A : Assigns last s st (depthIn c)) (size : length c ≡ suc (length s)) where
   fits : length (take (length s) c) ≡ length s
   fits = length-take-le (length s) c (omega arith)
 
-  counted-each : (o : ℕ) → List·Memᴰ o (offsets 0 (take (length s) c)) → (f : Flow) × (d : ℕ) × Place s o × Stands s o f × (depthIn c o ≡ some d)
+  counted-each : (o : ℕ) → List·Memᴰ o (offsets 0 (take (length s) c))
+      → (f : Flow) × (d : ℕ) × Place last s o × Stands last s o f × (depthIn c o ≡ some d)
   counted-each o m =
       let D = offsets-deep 0 (take (length s) c) o m in
       let z : D .steps ≡ o = omega (arith, D .is) in
@@ -169,10 +172,11 @@ module _ {s st : List ℕ} (c : List ℕ) (whole : NoFault s) (A : Assigns s st 
       let h : cell c o ≤ 65535 = subst (λ (x : ℕ). x ≤ 65535) (ap (λ (x : ℕ). getD (take (length s) c) x 65536) z ∙ getD-take (length s) c o 65536 l) (D .holds) in
       let e = depth-in c o (cell c o) refl h in
       let p = A .places o (cell c o) e .0 in
-      let g = stands-by s o (flowOf o (drop o s)) refl whole p l in
+      let g = stands-by s o (flowOf last o (drop o s)) refl whole p l in
       (g .0, cell c o, p, g .1, e)
 
-  counted-all : (o d : ℕ) (f : Flow) → Place s o → Stands s o f → depthIn c o ≡ some d → List·Memᴰ o (offsets 0 (take (length s) c))
+  counted-all : (o d : ℕ) (f : Flow) → Place last s o → Stands last s o f → depthIn c o ≡ some d
+      → List·Memᴰ o (offsets 0 (take (length s) c))
   counted-all o d f p h e =
       let i = stands-size h in
       let j = in-depth c o d e in
@@ -180,7 +184,7 @@ module _ {s st : List ℕ} (c : List ℕ) (whole : NoFault s) (A : Assigns s st 
       let y = getD-take (length s) c o 65536 l in
       offsets-all 0 (take (length s) c) o o (omega arith) (omega (arith, fits)) (omega arith)
 
-  pub counted : Counts s (depthIn c) (held (take (length s) c))
+  pub counted : Counts last s (depthIn c) (held (take (length s) c))
   counted = record {
     starts = offsets 0 (take (length s) c);
     rising = offsets-rising 0 (take (length s) c);
@@ -190,17 +194,18 @@ module _ {s st : List ℕ} (c : List ℕ) (whole : NoFault s) (A : Assigns s st 
   }
 
 -- clean cells of a sound assignment are the solution
-pub solution : {s st c c′ : List ℕ} → NoFault s → Sound s st c → Assigns s st (depthIn c) → Cleaned c c′ (length c)
-    → (k : ℕ) → length c ≡ suc (length s) → k ≡ held (take (length c - 1) c′) → Solution s st c′ k
-solution {s} {st} {c} {c′} whole S A B k e h =
+pub solution : {last : ℕ} {s st c c′ : List ℕ} → NoFault last s → Sound last s st c → Assigns last s st (depthIn c)
+    → Cleaned c c′ (length c)
+    → (k : ℕ) → length c ≡ suc (length s) → k ≡ held (take (length c - 1) c′) → Solution last s st c′ k
+solution {last} {s} {st} {c} {c′} whole S A B k e h =
     let y : length c - 1 ≡ length s = omega arith in
     let same = cleaned-same B in
     let A′ = assigns-same same A in
-    let D : (o d : ℕ) → depthIn c′ o ≡ some d → Derived s st o d = λ o d g. S .derived o d (sym (same o) ∙ g) in
+    let D : (o d : ℕ) → depthIn c′ o ≡ some d → Derived last s st o d = λ o d g. S .derived o d (sym (same o) ∙ g) in
     record {
       size = B .size ∙ e;
       smallest = smallest A′ D;
       others = cleaned-small B;
       derived = D;
-      count = subst (λ (x : ℕ). Counts s (depthIn c′) x) (sym (h ∙ ap (λ (n : ℕ). held (take n c′)) y)) (counted c′ whole A′ (B .size ∙ e));
+      count = subst (λ (x : ℕ). Counts last s (depthIn c′) x) (sym (h ∙ ap (λ (n : ℕ). held (take n c′)) y)) (counted c′ whole A′ (B .size ∙ e));
     }

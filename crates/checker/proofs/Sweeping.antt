@@ -55,7 +55,7 @@ kept-on {c} {c′} {f} {o} {d} A K = record {
 
 -- one instruction
 
-pub relaxed-none : (s c : List ℕ) (at : ℕ) → at < length c → 65535 < getD c at 0 → Relaxed s c c at 0
+pub relaxed-none : {last : ℕ} (s c : List ℕ) (at : ℕ) → at < length c → 65535 < getD c at 0 → Relaxed last s c c at 0
 relaxed-none s c at l g = record {
   step = still c 0 (omega arith) (λ z. omega arith);
   follows = λ st S. nothing S;
@@ -63,7 +63,8 @@ relaxed-none s c at l g = record {
   ahead = λ z o k. refl;
 }
 
-pub relaxed-fault : (s c : List ℕ) (at : ℕ) → ((f : Flow) → flowOf at (drop at s) ≡ F.Op f → ⊥) → Relaxed s c c at 0
+pub relaxed-fault : {last : ℕ} (s c : List ℕ) (at : ℕ) → ((f : Flow) → flowOf last at (drop at s) ≡ F.Op f → ⊥)
+    → Relaxed last s c c at 0
 relaxed-fault s c at n = record {
   step = still c 0 (omega arith) (λ z. omega arith);
   follows = λ st S. nothing S;
@@ -71,14 +72,14 @@ relaxed-fault s c at n = record {
   ahead = λ z o k. refl;
 }
 
-module _ (s c c₁ : List ℕ) (at a : ℕ) (f : Flow) (lc : at < length c) (small : getD c at 0 ≤ 65535) (h : Stands s at f) (A : Fell f c c₁ at (getD c at 0) a) where
+module _ {last : ℕ} (s c c₁ : List ℕ) (at a : ℕ) (f : Flow) (lc : at < length c) (small : getD c at 0 ≤ 65535) (h : Stands last s at f) (A : Fell f c c₁ at (getD c at 0) a) where
   at-depth : depthIn c at ≡ some (getD c at 0)
   at-depth = depth-in c at (getD c at 0) (getD-any c at 65536 0 lc) small
 
-  pub relaxed-out : a ≡ 2 → Relaxed s c c₁ at 2
+  pub relaxed-out : a ≡ 2 → Relaxed last s c c₁ at 2
   relaxed-out q = record {
     step = subst (λ (x : ℕ). Stepped c c₁ x) q (A .step);
-    follows = λ st S. stuck c₁ (A .follows s st S (S .derived at _ at-depth) h .stuck q);
+    follows = λ st S. stuck c₁ (A .follows last s st S (S .derived at _ at-depth) h .stuck q);
     kept = λ z. absurd (omega arith);
     ahead = λ z. absurd (omega arith);
   }
@@ -92,14 +93,14 @@ module _ (s c c₁ : List ℕ) (at a : ℕ) (f : Flow) (lc : at < length c) (sma
     one : {x y : ℕ} → depthIn c₂ at ≡ some x → depthIn c₂ at ≡ some y → x ≡ y
     one {x} {y} p q = cc
 
-    pub relaxed : Relaxed s c c₂ at b
+    pub relaxed : Relaxed last s c c₂ at b
     relaxed =
         let k = A .step .range in
         record {
           step = stepped-on (A .step) (B .step) b (B .step .range) (λ z. (omega arith, omega arith, omega arith));
           follows = λ st S.
-              let D : Derived s st at (getD c at 0) = S .derived at _ at-depth in
-              B .follows s st (A .follows s st S D h .sound (omega arith)) D h;
+              let D : Derived last s st at (getD c at 0) = S .derived at _ at-depth in
+              B .follows last s st (A .follows last s st S D h .sound (omega arith)) D h;
           kept = λ z g d e y.
               subst (λ (x : Flow). Kept (depthIn c₂) x at d) (stands-one h y)
               (subst (λ (x : ℕ). Kept (depthIn c₂) f at x) (one (B .step .keeps at _ (A .step .keeps at _ at-depth)) e) (respected z));
@@ -108,18 +109,18 @@ module _ (s c c₁ : List ℕ) (at a : ℕ) (f : Flow) (lc : at < length c) (sma
 
 -- a sweep
 
-pub swept-none : (s c : List ℕ) → Swept s c c 0 0
+pub swept-none : {last : ℕ} (s c : List ℕ) → Swept last s c c 0 0
 swept-none s c = record {
   step = still c 0 (omega arith) (λ z. omega arith);
   follows = λ st S. nothing S;
   kept = λ z o l. absurd (not-suc-le-zero l);
 }
 
-module _ {s c c₁ c₂ : List ℕ} {at m r : ℕ} (A : Swept s c c₁ at m) (small : m ≤ 1) (B : Relaxed s c₁ c₂ at r) where
-  swept-on : (st : List ℕ) → Sound s st c → Follows s st c₂ r
+module _ {last : ℕ} {s c c₁ c₂ : List ℕ} {at m r : ℕ} (A : Swept last s c c₁ at m) (small : m ≤ 1) (B : Relaxed last s c₁ c₂ at r) where
+  swept-on : (st : List ℕ) → Sound last s st c → Follows last s st c₂ r
   swept-on st S = B .follows st (A .follows st S .sound small)
 
-  pub swept-out : (n : ℕ) → r ≡ 2 → Swept s c c₂ n 2
+  pub swept-out : (n : ℕ) → r ≡ 2 → Swept last s c c₂ n 2
   swept-out n e = record {
     step = stepped-on (A .step) (B .step) 2 (omega arith) (λ z. absurd (omega arith));
     follows = λ st S. stuck c₂ (swept-on st S .stuck e);
@@ -127,17 +128,17 @@ module _ {s c c₁ c₂ : List ℕ} {at m r : ℕ} (A : Swept s c c₁ at m) (sm
   }
 
   -- m or 1
-  sound-on : (k : ℕ) → k ≤ 1 → r ≤ 1 → (st : List ℕ) → Sound s st c → Follows s st c₂ k
+  sound-on : (k : ℕ) → k ≤ 1 → r ≤ 1 → (st : List ℕ) → Sound last s st c → Follows last s st c₂ k
   sound-on k l p st S = record { sound = λ z. swept-on st S .sound p; stuck = λ z. absurd (omega arith) }
 
-  pub swept-one : r ≡ 1 → Swept s c c₂ (at + 1) 1
+  pub swept-one : r ≡ 1 → Swept last s c c₂ (at + 1) 1
   swept-one e = record {
     step = stepped-on (A .step) (B .step) 1 (omega arith) (λ z. (small, omega arith, omega arith));
     follows = sound-on 1 (omega arith) (omega arith);
     kept = λ z. absurd (omega arith);
   }
 
-  pub swept-zero : (r ≡ 2 → ⊥) → (r ≡ 1 → ⊥) → Swept s c c₂ (at + 1) m
+  pub swept-zero : (r ≡ 2 → ⊥) → (r ≡ 1 → ⊥) → Swept last s c c₂ (at + 1) m
   swept-zero p q =
       let k = B .step .range in
       let i : r ≡ 0 = omega arith in
@@ -145,23 +146,23 @@ module _ {s c c₁ c₂ : List ℕ} {at m r : ℕ} (A : Swept s c c₁ at m) (sm
         step = stepped-on (A .step) (B .step) m (omega arith) (λ z. (small, omega arith, omega arith));
         follows = sound-on m small (omega arith);
         kept = λ z.
-            below-more (KeptAt s c₂) at
+            below-more (KeptAt last s c₂) at
             (λ o l f d h e. kept-on (B .step) (A .kept z o l f d (sym (depth-same c₁ c₂ o (B .ahead i o (omega arith))) ∙ h) e))
             (B .kept (omega arith));
       }
 
 -- all sweeps
 
-pub record Going (s c c′ : List ℕ) : Type 0 where
+pub record Going (last : ℕ) (s c c′ : List ℕ) : Type 0 where
   pub size : length c′ ≡ length c
   pub keeps : (o d : ℕ) → depthIn c o ≡ some d → depthIn c′ o ≡ some d
-  pub sound : (st : List ℕ) → Sound s st c → Sound s st c′
+  pub sound : (st : List ℕ) → Sound last s st c → Sound last s st c′
 
-pub going-none : (s c : List ℕ) → Going s c c
+pub going-none : {last : ℕ} (s c : List ℕ) → Going last s c c
 going-none s c = record { size = refl; keeps = λ o d h. h; sound = λ st S. S }
 
-module _ {s c c₁ c₂ : List ℕ} {n r : ℕ} (A : Going s c c₁) (B : Swept s c₁ c₂ n r) where
-  pub going-on : (r ≡ 2 → ⊥) → Going s c c₂
+module _ {last : ℕ} {s c c₁ c₂ : List ℕ} {n r : ℕ} (A : Going last s c c₁) (B : Swept last s c₁ c₂ n r) where
+  pub going-on : (r ≡ 2 → ⊥) → Going last s c c₂
   going-on q = record {
     size = B .step .size ∙ A .size;
     keeps = λ o d h. B .step .keeps o d (A .keeps o d h);
@@ -175,7 +176,7 @@ module _ {s c c₁ c₂ : List ℕ} {n r : ℕ} (A : Going s c c₁) (B : Swept 
       let z = B .step .size in
       omega (arith, held-le c₂)
 
-  pub settled-no : r ≡ 2 → Settled s c c₂ false
+  pub settled-no : r ≡ 2 → Settled last s c c₂ false
   settled-no e = record {
     size = B .step .size ∙ A .size;
     keeps = λ z. absurd (ft z);
@@ -184,7 +185,7 @@ module _ {s c c₁ c₂ : List ℕ} {n r : ℕ} (A : Going s c c₁) (B : Swept 
     stuck = λ z st S. B .follows st (A .sound st S) .stuck e;
   }
 
-  pub settled-yes : n ≡ length s → r ≡ 0 → Settled s c c₂ true
+  pub settled-yes : n ≡ length s → r ≡ 0 → Settled last s c c₂ true
   settled-yes m e =
       let G = going-on (λ z. omega arith) in
       record {

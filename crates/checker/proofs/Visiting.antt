@@ -30,21 +30,23 @@ landed d c t h l = record { small = omega arith; leads = λ k. leads d c t h l; 
 -- cells in work
 
 -- a free place gets a depth that is derived
-pub sound-set : {s st c : List ℕ} {o d : ℕ} → Sound s st c → cell c o ≡ 65537 → Derived s st o d → d ≤ 65535 → Sound s st (set c o d)
-sound-set {s} {st} {c} {o} {d} S e D small = record {
+pub sound-set : {last : ℕ} {s st c : List ℕ} {o d : ℕ} → Sound last s st c → cell c o ≡ 65537 → Derived last s st o d
+    → d ≤ 65535 → Sound last s st (set c o d)
+sound-set {last} {s} {st} {c} {o} {d} S e D small = record {
   small = λ q. at (λ x y. x ≤ 65537) q (omega arith) (S .small q);
   marked = λ q p. at (λ x y. x ≡ 65536 → ⊥) q (λ z. omega arith) (S .marked q p);
-  place = λ q. at (λ x y. (x ≡ 65536 → ⊥) → Place s y) q (λ n. S .place o (λ z. omega arith)) (S .place q);
+  place = λ q. at (λ x y. (x ≡ 65536 → ⊥) → Place last s y) q (λ n. S .place o (λ z. omega arith)) (S .place q);
   derived = λ q g h.
       let i = in-depth (set c o d) q g h in
-      at (λ x y. x ≡ g → Derived s st y g) q (λ z. subst (λ (x : ℕ). Derived s st o x) z D) (λ z. S .derived q g (depth-in c q g z (i .1))) (i .0);
+      at (λ x y. x ≡ g → Derived last s st y g) q (λ z. subst (λ (x : ℕ). Derived last s st o x) z D) (λ z. S .derived q g (depth-in c q g z (i .1))) (i .0);
 }
   where
     at : (P : ℕ → ℕ → Type 0) (q : ℕ) → P d o → P (cell c q) q → P (cell (set c o d) q) q
     at = cell-set c o d (cell-in c o (λ z. omega arith))
 
 -- a place that already has another depth, or is none
-pub sound-clash : {s st c : List ℕ} {o d : ℕ} → Sound s st c → Derived s st o d → (cell c o ≡ d → ⊥) → (cell c o ≡ 65537 → ⊥) → Impossible s st
+pub sound-clash : {last : ℕ} {s st c : List ℕ} {o d : ℕ} → Sound last s st c → Derived last s st o d
+    → (cell c o ≡ d → ⊥) → (cell c o ≡ 65537 → ⊥) → Impossible last s st
 sound-clash {s} {st} {c} {o} {d} S D n u a A =
     let i = A .places o d (derived-in A D) in
     let m = S .marked o (i .0) in
@@ -64,19 +66,20 @@ pub untouched : (c : List ℕ) (o r : ℕ) → (r ≡ 1 → ⊥) → Touched c c
 untouched c o r n = record { same = λ e. refl; only = λ q h. refl; within = λ e. absurd (n e); weigh = λ e. omega arith }
 
 -- nothing is asked, or what is asked cannot be
-pub nothing : {s st c : List ℕ} → Sound s st c → Follows s st c 0
+pub nothing : {last : ℕ} {s st c : List ℕ} → Sound last s st c → Follows last s st c 0
 nothing S = record { sound = λ z. S; stuck = λ z. absurd (omega arith) }
 
-pub stuck : {s st : List ℕ} (c : List ℕ) → Impossible s st → Follows s st c 2
+pub stuck : {last : ℕ} {s st : List ℕ} (c : List ℕ) → Impossible last s st → Follows last s st c 2
 stuck c n = record { sound = λ z. absurd (omega arith); stuck = λ z. n }
 
 -- visits
 
 module _ (c : List ℕ) (o d : ℕ) where
-  refused : ((s st : List ℕ) → Sound s st c → Derived s st o d → Impossible s st) → Visited c c o d 2
+  refused : ((last : ℕ) (s st : List ℕ) → Sound last s st c → Derived last s st o d → Impossible last s st)
+      → Visited c c o d 2
   refused no-way = record {
     step = still c 2 (omega arith) (λ z. omega arith);
-    follows = λ s st S D. stuck c (no-way s st S D);
+    follows = λ last s st S D. stuck c (no-way last s st S D);
     put = λ z. absurd (omega arith);
     touch = untouched c o 2 (λ z. omega arith);
   }
@@ -84,17 +87,17 @@ module _ (c : List ℕ) (o d : ℕ) where
   pub visited-out : d ≤ 65535 → length c ≤ o → Visited c c o d 2
   visited-out small l =
       let e : cell c o ≡ 65536 = List·getD-eq-default c 65536 l in
-      refused (λ s st S D. sound-clash S D (λ q. omega arith) (λ q. omega arith))
+      refused (λ last s st S D. sound-clash S D (λ q. omega arith) (λ q. omega arith))
 
   pub visited-clash : o < length c → (getD c o 0 ≡ d → ⊥) → (getD c o 0 ≡ 65537 → ⊥) → Visited c c o d 2
   visited-clash l n u =
       let w = getD-any c o 65536 0 l in
-      refused (λ s st S D. sound-clash S D (λ q. n (sym w ∙ q)) (λ q. u (sym w ∙ q)))
+      refused (λ last s st S D. sound-clash S D (λ q. n (sym w ∙ q)) (λ q. u (sym w ∙ q)))
 
   pub visited-same : d ≤ 65535 → o < length c → getD c o 0 ≡ d → Visited c c o d 0
   visited-same small l e = record {
     step = still c 0 (omega arith) (λ z. omega arith);
-    follows = λ s st S D. nothing S;
+    follows = λ last s st S D. nothing S;
     put = λ z. depth-in c o d (getD-any c o 65536 0 l ∙ e) small;
     touch = untouched c o 0 (λ z. omega arith);
   }
@@ -111,7 +114,7 @@ module _ (c : List ℕ) (o d : ℕ) where
           keeps = λ q g k. (let i = in-depth c q g k in
               depth-in (set c o d) q g (cell-set-other c o q d (λ z. let y : cell c q ≡ cell c o = ap (cell c) z in omega arith) ∙ i .0) (i .1));
         };
-        follows = λ s st S D. record { sound = λ z. sound-set S w D small; stuck = λ z. absurd (omega arith) };
+        follows = λ last s st S D. record { sound = λ z. sound-set S w D small; stuck = λ z. absurd (omega arith) };
         put = λ z. depth-in (set c o d) o d (cell-set-same c o d l) small;
         touch = record { same = λ z. absurd (omega arith); only = λ q n. cell-set-other c o q d n; within = λ z. l; weigh = λ z. omega arith };
       }
@@ -123,7 +126,7 @@ module _ (c : List ℕ) (o d : ℕ) (change : Change) (t : ℕ) (L : Landed d ch
   arrived-out g = (
     record {
       step = still c 2 (omega arith) (λ z. omega arith);
-      follows = λ s st S to no-way. stuck c (no-way (L .out g));
+      follows = λ last s st S to no-way. stuck c (no-way (L .out g));
       put = λ z. absurd (omega arith);
     },
     untouched c o 2 (λ z. omega arith),
@@ -133,7 +136,7 @@ module _ (c : List ℕ) (o d : ℕ) (change : Change) (t : ℕ) (L : Landed d ch
   arrived-on c′ r g W = (
     record {
       step = W .step;
-      follows = λ s st S to no-way. W .follows s st S (to t (L .leads g));
+      follows = λ last s st S to no-way. W .follows last s st S (to t (L .leads g));
       put = λ z. (t, (L .leads g, W .put z));
     },
     W .touch,
@@ -144,7 +147,7 @@ module _ (c c′ : List ℕ) (at o d : ℕ) (change : Change) (r : ℕ) (W : Arr
   hopped-over e l = (
     record {
       step = record { size = W .step .size; range = omega arith; grows = λ z. (let g = W .step .grows (omega arith) in omega arith); keeps = W .step .keeps };
-      follows = λ s st S to no-way. record { sound = λ z. W .follows s st S to no-way .sound (omega arith); stuck = λ z. absurd (omega arith) };
+      follows = λ last s st S to no-way. record { sound = λ z. W .follows last s st S to no-way .sound (omega arith); stuck = λ z. absurd (omega arith) };
       put = λ z. W .put (omega arith);
     },
     λ z q k. U .only q (λ y. omega arith),
@@ -162,7 +165,7 @@ module _ (f : Flow) (c : List ℕ) (at d : ℕ) where
   pub fell-on : (c′ : List ℕ) (r : ℕ) → f .falls ≡ true → Arrived c c′ (at + f .size) d (f .net) r → Touched c c′ (at + f .size) r → Fell f c c′ at d r
   fell-on c′ r fl W U = record {
     step = W .step;
-    follows = λ s st S D h. W .follows s st S (λ e l. fall D h fl l refl) (clash-net D h);
+    follows = λ last s st S D h. W .follows last s st S (λ e l. fall D h fl l refl) (clash-net D h);
     net = λ z. (let p = W .put z in record { depth = p .0; leads = p .1 .0; has = λ y. p .1 .1 });
     touch = U;
   }
@@ -171,7 +174,7 @@ module _ (f : Flow) (c : List ℕ) (at d : ℕ) where
     pub fell-out : 65535 < t → Fell f c c at d 2
     fell-out g = record {
       step = still c 2 (omega arith) (λ z. omega arith);
-      follows = λ s st S D h. stuck c (clash-net D h (L .out g));
+      follows = λ last s st S D h. stuck c (clash-net D h (L .out g));
       net = λ z. absurd (omega arith);
       touch = untouched c (at + f .size) 2 (λ z. omega arith);
     }
@@ -179,7 +182,7 @@ module _ (f : Flow) (c : List ℕ) (at d : ℕ) where
     pub fell-stop : t ≤ 65535 → f .falls ≡ false → Fell f c c at d 0
     fell-stop g fl = record {
       step = still c 0 (omega arith) (λ z. omega arith);
-      follows = λ s st S D h. nothing S;
+      follows = λ last s st S D h. nothing S;
       net = λ z. record { depth = t; leads = L .leads g; has = λ y. absurd (no-both y fl) };
       touch = untouched c (at + f .size) 0 (λ z. omega arith);
     }
@@ -190,7 +193,7 @@ module _ (f : Flow) (c : List ℕ) (at d : ℕ) where
   pub jumped-not : f .goal ≡ Nowhere → Jumped f c c at d 0
   jumped-not g = record {
     step = still c 0 (omega arith) (λ z. omega arith);
-    follows = λ s st S D h. nothing S;
+    follows = λ last s st S D h. nothing S;
     taken = λ z y. absurd (y g);
     ahead = λ z o k. refl;
   }
@@ -198,7 +201,7 @@ module _ (f : Flow) (c : List ℕ) (at d : ℕ) where
   pub jumped-outside : f .goal ≡ Outside → Jumped f c c at d 2
   jumped-outside g = record {
     step = still c 2 (omega arith) (λ z. omega arith);
-    follows = λ s st S D h. stuck c (clash-outside D h g);
+    follows = λ last s st S D h. stuck c (clash-outside D h g);
     taken = λ z. absurd (omega arith);
     ahead = λ z. absurd (omega arith);
   }
@@ -206,7 +209,7 @@ module _ (f : Flow) (c : List ℕ) (at d : ℕ) where
   pub jumped-on : (c′ : List ℕ) (t r : ℕ) → f .goal ≡ To t → Arrived c c′ t d (f .taken) r → (r ≡ 0 → Ahead c c′ at) → Jumped f c c′ at d r
   jumped-on c′ t r g W U = record {
     step = W .step;
-    follows = λ s st S D h. W .follows s st S (λ e l. jump D h g l) (clash-taken D h g);
+    follows = λ last s st S D h. W .follows last s st S (λ e l. jump D h g l) (clash-taken D h g);
     taken = λ z y. (let p = W .put z in record { target = t; depth = p .0; goes = g; leads = p .1 .0; has = p .1 .1 });
     ahead = U;
   }

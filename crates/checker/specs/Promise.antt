@@ -1,5 +1,5 @@
--- What a check promises: document 01, "The depth checker". s is the code, st the starts, d the depth slice before and d′ after, r the
--- answer.
+-- What a check promises: document 01, "The depth checker". `last` is the last opcode of the table, s the code, st the
+-- starts, d the depth slice before and d′ after, r the answer.
 -- Assumes nothing.
 use mathlib.Core.Path.{_≡_}
 use mathlib.Core.Bool.{Bool, false, _&&_}
@@ -9,6 +9,7 @@ use Prim.Native.Nat.{ℕ, suc, _+_, _*_, _%_, _≤_, _<_}
 use lib.Dec.{leb}
 use lib.ListN.{length, getD, take, drop, replicate}
 use Rattle.op.specs.Depths.{deepest}
+use Rattle.op.specs.Opcodes.{lastOpcode}
 use Rattle.op.specs.declared.Refusal.{Refusal}
 use Rattle.op.specs.declared.Refusal.the-variants.{TooLarge, Unsound, ShortDepths, BadStarts, NoDepths}
 use Rattle.code.specs.Depths.{Place, Faulty, Smallest, Impossible, Derived, Counts}
@@ -27,26 +28,26 @@ abbrev pub NoRoom : List ℕ → List ℕ → Refusal → Type 0
 NoRoom s d q = (q ≡ ShortDepths) × (length d ≤ length s)
 
 -- a start list that can be: pairs of an instruction's start or the end and a depth
-pub record Listed (s st : List ℕ) : Type 0 where
+pub record Listed (last : ℕ) (s st : List ℕ) : Type 0 where
   pub even : length st % 2 ≡ 0
-  pub good : (k : ℕ) → 2 * k + 1 < length st → (getD st (2 * k + 1) 0 ≤ deepest) × Place s (getD st (2 * k) 0)
+  pub good : (k : ℕ) → 2 * k + 1 < length st → (getD st (2 * k + 1) 0 ≤ deepest) × Place last s (getD st (2 * k) 0)
 
 -- 20, any other
-abbrev pub Astray : List ℕ → List ℕ → Refusal → Type 0
-Astray s st q = (q ≡ BadStarts) × (Listed s st → ⊥)
+abbrev pub Astray : ℕ → List ℕ → List ℕ → Refusal → Type 0
+Astray last s st q = (q ≡ BadStarts) × (Listed last s st → ⊥)
 
 -- 23, no assignment of depths exists
-abbrev pub Unsolved : List ℕ → List ℕ → Refusal → Type 0
-Unsolved s st q = (q ≡ NoDepths) × Impossible s st
+abbrev pub Unsolved : ℕ → List ℕ → List ℕ → Refusal → Type 0
+Unsolved last s st q = (q ≡ NoDepths) × Impossible last s st
 
 -- "The slice then holds the smallest assignment, 65,536 in every other cell of the first code+1"; each depth is derived, and k
 -- instructions have one
-pub record Solution (s st c : List ℕ) (k : ℕ) : Type 0 where
+pub record Solution (last : ℕ) (s st c : List ℕ) (k : ℕ) : Type 0 where
   pub size : length c ≡ suc (length s)
-  pub smallest : Smallest s st (depthIn c)
+  pub smallest : Smallest last s st (depthIn c)
   pub others : (o : ℕ) → cell c o ≤ 65536
-  pub derived : (o d : ℕ) → depthIn c o ≡ some d → Derived s st o d
-  pub count : Counts s (depthIn c) k
+  pub derived : (o d : ℕ) → depthIn c o ≡ some d → Derived last s st o d
+  pub count : Counts last s (depthIn c) k
 
 -- the first code+1 cells became c: "Later cells never change"
 abbrev pub Became : List ℕ → List ℕ → List ℕ → List ℕ → Type 0
@@ -61,11 +62,11 @@ abbrev pub Blanks : List ℕ → List ℕ → List ℕ → Checked → Refusal �
 Blanks s d d′ r q = (r ≡ Refused q) × Became s d d′ (replicate (suc (length s)) 65536)
 
 -- accepted, with a solution
-pub record Accepts (s st d d′ : List ℕ) (r : Checked) : Type 0 where
+pub record Accepts (last : ℕ) (s st d d′ : List ℕ) (r : Checked) : Type 0 where
   pub count : ℕ
   pub cells : List ℕ
   pub answer : r ≡ Accepted count
-  pub solution : Solution s st cells count
+  pub solution : Solution last s st cells count
   pub became : Became s d d′ cells
 
 -- P holds of a refusal, and A of the same; or P holds of none, and B
@@ -74,14 +75,14 @@ pub data Unless (P A : Refusal → Type 0) (B : Type 0) : Type 0 where
   passes : ((q : Refusal) → P q → ⊥) → B → Unless P A B
 
 -- "Order: 10, 21, 1 or 22 at the lowest offset, 20, 23", else accepted
-unfoldable pub Promise : List ℕ → List ℕ → List ℕ → List ℕ → Checked → Type 0
-Promise s st d d′ r =
+unfoldable pub Promise : ℕ → List ℕ → List ℕ → List ℕ → List ℕ → Checked → Type 0
+Promise last s st d d′ r =
     Unless (TooLong s) (Refuses d d′ r)
     (Unless (NoRoom s d) (Refuses d d′ r)
-    (Unless (Faulty s) (Refuses d d′ r)
-    (Unless (Astray s st) (Refuses d d′ r)
-    (Unless (Unsolved s st) (Blanks s d d′ r)
-    (Accepts s st d d′ r)))))
+    (Unless (Faulty last s) (Refuses d d′ r)
+    (Unless (Astray last s st) (Refuses d d′ r)
+    (Unless (Unsolved last s st) (Blanks s d d′ r)
+    (Accepts last s st d d′ r)))))
 
 -- 19 of a builder whose code and starts are lent, so many cells each
 unfoldable pub builtSound : Builder → ℕ → ℕ → Bool
@@ -95,4 +96,4 @@ Miscounted b s st q = (q ≡ Unsound) × (builtSound b (length s) (length st) �
 unfoldable pub BuiltPromise : Builder → List ℕ → List ℕ → List ℕ → List ℕ → Checked → Type 0
 BuiltPromise b s st d d′ r =
     Unless (Miscounted b s st) (Refuses d d′ r)
-    (Promise (take (b .core .code) s) (take (b .starts * startCells) st) d d′ r)
+    (Promise lastOpcode (take (b .core .code) s) (take (b .starts * startCells) st) d d′ r)

@@ -10,7 +10,9 @@ use Rattle.checker.specs.Promise.{Promise, BuiltPromise}
 
 -- of `check`: two answers, and the slices that they leave, are the same
 abbrev pub PromiseOne : Type 0
-PromiseOne = (s st d d₁ d₂ : List ℕ) (r₁ r₂ : Checked) → Promise s st d d₁ r₁ → Promise s st d d₂ r₂ → (r₁ ≡ r₂) × (d₁ ≡ d₂)
+PromiseOne =
+    (last : ℕ) (s st d d₁ d₂ : List ℕ) (r₁ r₂ : Checked) → Promise last s st d d₁ r₁ → Promise last s st d d₂ r₂
+    → (r₁ ≡ r₂) × (d₁ ≡ d₂)
 
 -- of `check_built`
 abbrev pub BuiltOne : Type 0

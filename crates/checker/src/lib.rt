@@ -1,5 +1,6 @@
 // The depth checker: whether depths can be given to the instructions of some code, and the smallest such assignment.
 ghost use mathlib.Core.Path.{_≡_};
+ghost use Rattle.op.specs.Opcodes.{lastOpcode};
 ghost use Rattle.checker.specs.Promise.{Promise, builtSound, BuiltPromise};
 use builder::Builder;
 use builder::CODE_LIMIT;
@@ -30,7 +31,7 @@ pub enum Walk {
 // Checks the code against its starts, an offset and a depth each. Where it is accepted, the first code.len() + 1 cells of `depths`
 // hold the smallest assignment, with 65,536 for none; on 23 they all hold 65,536; otherwise nothing is written.
 pub fn check(code: &[u8], starts: &[u32], depths: &mut [u32]) -> Checked
-    ensures { λ r. ⌜ Promise (now (code .entry)) (now (starts .entry)) (now (depths .entry)) (now (depths .exit)) r ⌝ }
+    ensures { λ r. ⌜ Promise lastOpcode (now (code .entry)) (now (starts .entry)) (now (depths .entry)) (now (depths .exit)) r ⌝ }
 {
     if 1048576 < code.len() {
         return Checked::Refused(Refusal::TooLarge);

@@ -2,6 +2,7 @@
 ghost use mathlib.Core.Path.{_≡_};
 ghost use Prim.Native.Nat.{ℕ, suc, _+_, _*_, _<_, _≤_};
 ghost use lib.ListN.{length, getD};
+ghost use Rattle.op.specs.Opcodes.{lastOpcode};
 ghost use Rattle.checker.specs.Promise.{Listed};
 ghost use Rattle.checker.specs.Inner.{NoFault, Placed, Outcome};
 use crate::Checked;
@@ -32,8 +33,8 @@ fn begin(starts: &[u32], cells: &mut [u32]) -> bool
 
 // The smallest assignment and its count, or 23.
 pub fn solve(code: &[u8], starts: &[u32], cells: &mut [u32]) -> Checked
-    requires { ⌜ (length (now code) ≤ 1048576) × (length (now cells) ≡ suc (length (now code))) × NoFault (now code) × Listed (now code) (now starts) ⌝ }
-    ensures { λ r. ⌜ Outcome (now (code .entry)) (now (starts .entry)) (now (cells .exit)) r ⌝ }
+    requires { ⌜ (length (now code) ≤ 1048576) × (length (now cells) ≡ suc (length (now code))) × NoFault lastOpcode (now code) × Listed lastOpcode (now code) (now starts) ⌝ }
+    ensures { λ r. ⌜ Outcome lastOpcode (now (code .entry)) (now (starts .entry)) (now (cells .exit)) r ⌝ }
 {
     cells::fill(cells, 65536);
     walks::mark(code, cells);

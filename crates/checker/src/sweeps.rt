@@ -2,6 +2,7 @@
 ghost use mathlib.Core.Path.{_≡_};
 ghost use Prim.Native.Nat.{suc, _<_, _≤_};
 ghost use lib.ListN.{length};
+ghost use Rattle.op.specs.Opcodes.{lastOpcode};
 ghost use Rattle.checker.specs.Inner.{Relaxed, Swept, Settled};
 use crate::visits;
 use code::Flowing;
@@ -11,7 +12,7 @@ use code::decoder;
 // lies ahead is still to come in the same sweep.
 fn relax(code: &[u8], cells: &mut [u32], at: usize) -> u8
     requires { ⌜ (length (now code) ≤ 1048576) × (at < length (now code)) × (length (now cells) ≡ suc (length (now code))) ⌝ }
-    ensures { λ r. ⌜ Relaxed (now (code .entry)) (now (cells .entry)) (now (cells .exit)) at r ⌝ }
+    ensures { λ r. ⌜ Relaxed lastOpcode (now (code .entry)) (now (cells .entry)) (now (cells .exit)) at r ⌝ }
 {
     let d = cells[at];
     if 65535 < d {
@@ -31,7 +32,7 @@ fn relax(code: &[u8], cells: &mut [u32], at: usize) -> u8
 // The same of every offset in turn; what is no place has no depth.
 fn sweep(code: &[u8], cells: &mut [u32]) -> u8
     requires { ⌜ (length (now code) ≤ 1048576) × (length (now cells) ≡ suc (length (now code))) ⌝ }
-    ensures { λ r. ⌜ Swept (now (code .entry)) (now (cells .entry)) (now (cells .exit)) (length (now (code .entry))) r ⌝ }
+    ensures { λ r. ⌜ Swept lastOpcode (now (code .entry)) (now (cells .entry)) (now (cells .exit)) (length (now (code .entry))) r ⌝ }
 {
     let mut moved: u8 = 0;
     let mut at = 0;
@@ -51,7 +52,7 @@ fn sweep(code: &[u8], cells: &mut [u32]) -> u8
 // Whether the sweeps come to an end with no conflict.
 pub fn settle(code: &[u8], cells: &mut [u32]) -> bool
     requires { ⌜ (length (now code) ≤ 1048576) × (length (now cells) ≡ suc (length (now code))) ⌝ }
-    ensures { λ r. ⌜ Settled (now (code .entry)) (now (cells .entry)) (now (cells .exit)) r ⌝ }
+    ensures { λ r. ⌜ Settled lastOpcode (now (code .entry)) (now (cells .entry)) (now (cells .exit)) r ⌝ }
 {
     loop {
         let r = sweep(code, cells);

@@ -2,6 +2,7 @@
 ghost use mathlib.Core.Path.{_≡_};
 ghost use Prim.Native.Nat.{ℕ, suc, _+_, _*_, _<_};
 ghost use lib.ListN.{length, drop, getD};
+ghost use Rattle.op.specs.Opcodes.{lastOpcode};
 ghost use Rattle.code.specs.Decode.{decode};
 ghost use Rattle.code.specs.Depths.{Place};
 ghost use Rattle.checker.specs.Cells.{cell};
@@ -14,7 +15,7 @@ use code::decoder;
 
 // What a walk that can go no further has met.
 fn stop(code: &[u8], at: usize) -> Walk
-    ensures { λ r. ⌜ r ≡ stopOf (decode at (drop at (now (code .entry)))) ⌝ }
+    ensures { λ r. ⌜ r ≡ stopOf (decode lastOpcode at (drop at (now (code .entry)))) ⌝ }
 {
     let step = decoder::step_at(code, at);
     match step {
@@ -30,7 +31,7 @@ fn stop(code: &[u8], at: usize) -> Walk
 
 // The first fault, if there is one.
 pub fn walk_all(code: &[u8]) -> Walk
-    ensures { λ r. ⌜ Walked (now (code .entry)) r ⌝ }
+    ensures { λ r. ⌜ Walked lastOpcode (now (code .entry)) r ⌝ }
 {
     let mut at = 0;
     loop {
@@ -44,7 +45,7 @@ pub fn walk_all(code: &[u8]) -> Walk
 
 // Whether an offset is an instruction's start or the end.
 fn is_place(code: &[u8], o: usize) -> bool
-    ensures { λ r. ⌜ Tells r (Place (now (code .entry)) o) ⌝ }
+    ensures { λ r. ⌜ Tells r (Place lastOpcode (now (code .entry)) o) ⌝ }
 {
     let mut at = 0;
     while at < o {
@@ -82,7 +83,7 @@ pub fn start_depth(starts: &[u32], k: usize) -> u32
 
 // Whether the start list is one that can be.
 pub fn starts_fine(code: &[u8], starts: &[u32]) -> bool
-    ensures { λ r. ⌜ Tells r (Listed (now (code .entry)) (now (starts .entry))) ⌝ }
+    ensures { λ r. ⌜ Tells r (Listed lastOpcode (now (code .entry)) (now (starts .entry))) ⌝ }
 {
     let n = starts.len();
     if n % 2 == 1 {
@@ -106,8 +107,8 @@ pub fn starts_fine(code: &[u8], starts: &[u32]) -> bool
 
 // Marks each place with 65,537.
 pub fn mark(code: &[u8], cells: &mut [u32])
-    requires { ⌜ (length (now cells) ≡ suc (length (now code))) × ((o : ℕ) → cell (now cells) o ≡ 65536) × NoFault (now code) ⌝ }
-    ensures { λ _. ⌜ (length (now (cells .exit)) ≡ length (now (cells .entry))) × Marked (now (code .entry)) (now (cells .exit)) ⌝ }
+    requires { ⌜ (length (now cells) ≡ suc (length (now code))) × ((o : ℕ) → cell (now cells) o ≡ 65536) × NoFault lastOpcode (now code) ⌝ }
+    ensures { λ _. ⌜ (length (now (cells .exit)) ≡ length (now (cells .entry))) × Marked lastOpcode (now (code .entry)) (now (cells .exit)) ⌝ }
 {
     let mut at = 0;
     loop {

@@ -50,8 +50,8 @@ leads-one d c e g h k = cc
 
 -- derived depths
 
-module _ {s st : List ℕ} {a : ℕ → Option ℕ} (A : Assigns s st a) where
-  pub derived-in : {o d : ℕ} → Derived s st o d → a o ≡ some d
+module _ {last : ℕ} {s st : List ℕ} {a : ℕ → Option ℕ} (A : Assigns last s st a) where
+  pub derived-in : {o d : ℕ} → Derived last s st o d → a o ≡ some d
   derived-in (start {o = o} {d = d} b) = A .starts o d b
   derived-in (fall {o = o} {d = d} {q = q} {e = e} {f = f} D h fl l w) =
       let K = A .kept o d f (derived-in D) h .falls in
@@ -70,7 +70,8 @@ module _ {s st : List ℕ} {a : ℕ → Option ℕ} (A : Assigns s st a) where
       same-target {t} n m = cc
 
 -- derived and closed: the smallest
-pub smallest : {s st : List ℕ} {a : ℕ → Option ℕ} → Assigns s st a → ((o d : ℕ) → a o ≡ some d → Derived s st o d) → Smallest s st a
+pub smallest : {last : ℕ} {s st : List ℕ} {a : ℕ → Option ℕ} → Assigns last s st a
+    → ((o d : ℕ) → a o ≡ some d → Derived last s st o d) → Smallest last s st a
 smallest A D = record { assigns = A; least = λ b B o d e. derived-in B (D o d e) }
 
 -- two smallest assignments agree
@@ -79,30 +80,31 @@ agree (some d) y to from = sym (to d refl)
 agree none (some d) to from = from d refl
 agree none none to from = refl
 
-pub smallest-agree : {s st : List ℕ} {a b : ℕ → Option ℕ} → Smallest s st a → Smallest s st b → (o : ℕ) → a o ≡ b o
+pub smallest-agree : {last : ℕ} {s st : List ℕ} {a b : ℕ → Option ℕ} → Smallest last s st a → Smallest last s st b
+    → (o : ℕ) → a o ≡ b o
 smallest-agree {a} {b} A B o = agree (a o) (b o) (A .least b (B .assigns) o) (B .least a (A .assigns) o)
 
 -- why no assignment exists
 
-module _ {s st : List ℕ} {o d : ℕ} (D : Derived s st o d) where
+module _ {last : ℕ} {s st : List ℕ} {o d : ℕ} (D : Derived last s st o d) where
   -- a derived depth that is no place's, or is out of range
-  pub clash-place : (Place s o → ⊥) → Impossible s st
+  pub clash-place : (Place last s o → ⊥) → Impossible last s st
   clash-place n a A = n (A .places o d (derived-in A D) .0)
 
   -- two derived depths at one place
-  pub clash-depths : {e : ℕ} → Derived s st o e → (d ≡ e → ⊥) → Impossible s st
+  pub clash-depths : {e : ℕ} → Derived last s st o e → (d ≡ e → ⊥) → Impossible last s st
   clash-depths {e} E n a A = n (some-one (derived-in A D) (derived-in A E))
     where
       some-one : a o ≡ some d → a o ≡ some e → d ≡ e
       some-one p q = cc
 
-  module _ {f : Flow} (h : Stands s o f) where
+  module _ {f : Flow} (h : Stands last s o f) where
     -- a fall-through depth out of range
-    pub clash-net : ((e : ℕ) → Leads d (f .net) e → ⊥) → Impossible s st
+    pub clash-net : ((e : ℕ) → Leads d (f .net) e → ⊥) → Impossible last s st
     clash-net n a A = let K = A .kept o d f (derived-in A D) h .falls in n (K .depth) (K .leads)
 
     -- a jump out of the code
-    pub clash-outside : f .goal ≡ Outside → Impossible s st
+    pub clash-outside : f .goal ≡ Outside → Impossible last s st
     clash-outside g a A = let K = A .kept o d f (derived-in A D) h .jumps no-way in out (K .goes)
       where
         no-way : f .goal ≡ Nowhere → ⊥
@@ -112,7 +114,7 @@ module _ {s st : List ℕ} {o d : ℕ} (D : Derived s st o d) where
         out {t} m = let z : _≡_ {A = ℕ} 0 1 = cc in omega arith
 
     -- a taken depth out of range
-    pub clash-taken : {t : ℕ} → f .goal ≡ To t → ((e : ℕ) → Leads d (f .taken) e → ⊥) → Impossible s st
+    pub clash-taken : {t : ℕ} → f .goal ≡ To t → ((e : ℕ) → Leads d (f .taken) e → ⊥) → Impossible last s st
     clash-taken {t} g n a A = let K = A .kept o d f (derived-in A D) h .jumps no-way in n (K .depth) (K .leads)
       where
         no-way : f .goal ≡ Nowhere → ⊥

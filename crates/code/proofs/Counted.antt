@@ -22,12 +22,12 @@ use Rattle.code.proofs.Decoding.{decoded-ends}
 use Rattle.code.proofs.Step.{the-type}
 
 -- n instructions end at `at`, and what is left is counted from there
-pub record Counting (s : List ℕ) (at n : ℕ) : Type 0 where
+pub record Counting (last : ℕ) (s : List ℕ) (at n : ℕ) : Type 0 where
   pub inside : at ≤ length s
   pub few : n ≤ at
   pub fuel : ℕ
   pub enough : length s < at + fuel
-  pub so-far : countOf s ≡ plus n (countFrom fuel at (drop at s))
+  pub so-far : countOf last s ≡ plus n (countFrom last fuel at (drop at s))
 
 plus-zero : (c : Count) → c ≡ plus 0 c
 plus-zero (Whole m) = ap Whole (sym (zero-add m))
@@ -37,52 +37,57 @@ plus-plus : (n m : ℕ) (c : Count) → plus n (plus m c) ≡ plus (n + m) c
 plus-plus n m (Whole k) = ap Whole (omega arith)
 plus-plus n m (Stopped k r) = let e : n + (m + k) ≡ n + m + k = omega arith in ap (λ (j : ℕ). Stopped j r) e
 
-pub counting-none : (s : List ℕ) → Counting s 0 0
+pub counting-none : (last : ℕ) (s : List ℕ) → Counting last s 0 0
 unfolding countOf
-counting-none s = record {
+counting-none last s = record {
   inside = omega arith;
   few = omega arith;
   fuel = suc (length s);
   enough = omega arith;
-  so-far = plus-zero (countFrom (suc (length s)) 0 s);
+  so-far = plus-zero (countFrom last (suc (length s)) 0 s);
 }
 
 -- one instruction is counted, and what is behind it
-step-on : (s : List ℕ) (at k : ℕ) (o : Operand) (z fuel : ℕ) → decode at (drop at s) ≡ Instr k o z
-    → countFrom (suc fuel) at (drop at s) ≡ plus 1 (countFrom fuel (at + z) (drop (at + z) s))
+step-on : (last : ℕ) (s : List ℕ) (at k : ℕ) (o : Operand) (z fuel : ℕ) → decode last at (drop at s) ≡ Instr k o z
+    → countFrom last (suc fuel) at (drop at s) ≡ plus 1 (countFrom last fuel (at + z) (drop (at + z) s))
 unfolding countFrom
-step-on s at k o z fuel e =
-    ap (counted (countFrom fuel) at (drop at s)) e ∙ ap (λ (u : List ℕ). plus 1 (countFrom fuel (at + z) u)) (drop-drop z at s)
+step-on last s at k o z fuel e =
+    ap (counted (countFrom last fuel) at (drop at s)) e ∙ ap (λ (u : List ℕ). plus 1 (countFrom last fuel (at + z) u)) (drop-drop z at s)
 
 -- behind an instruction
-pub counting-on : (s : List ℕ) (at n k : ℕ) (o : Operand) (z : ℕ) → Counting s at n → decode at (drop at s) ≡ Instr k o z → Counting s (at + z) (n + 1)
-counting-on s at n k o z c e = go (c .fuel) (c .enough) (c .so-far)
+pub counting-on : (last : ℕ) (s : List ℕ) (at n k : ℕ) (o : Operand) (z : ℕ) → Counting last s at n
+    → decode last at (drop at s) ≡ Instr k o z → Counting last s (at + z) (n + 1)
+counting-on last s at n k o z c e = go (c .fuel) (c .enough) (c .so-far)
   where
-    go : (f : ℕ) → length s < at + f → countOf s ≡ plus n (countFrom f at (drop at s)) → Counting s (at + z) (n + 1)
+    go : (f : ℕ) → length s < at + f → countOf last s ≡ plus n (countFrom last f at (drop at s))
+        → Counting last s (at + z) (n + 1)
     go zero h q = let b : ⊥ = omega (arith, c .inside) in absurd b
     go (suc f) h q =
-        let ends = decoded-ends at s k o z e in
+        let ends = decoded-ends last at s k o z e in
         record {
           inside = ends .1;
           few = omega (arith, c .few, ends .0);
           fuel = f;
           enough = omega (arith, ends .0);
-          so-far = q ∙ ap (plus n) (step-on s at k o z f e) ∙ plus-plus n 1 (countFrom f (at + z) (drop (at + z) s));
+          so-far = q ∙ ap (plus n) (step-on last s at k o z f e) ∙ plus-plus n 1 (countFrom last f (at + z) (drop (at + z) s));
         }
 
 -- the count, where a step is none
-stop-here : (s : List ℕ) (at n fuel : ℕ) (t : Step) → OneOf (1 ∷ 2 ∷ []) (tagOf the-type t) → decode at (drop at s) ≡ t
-    → stopped n t ≡ plus n (countFrom (suc fuel) at (drop at s))
+stop-here : (last : ℕ) (s : List ℕ) (at n fuel : ℕ) (t : Step) → OneOf (1 ∷ 2 ∷ []) (tagOf the-type t)
+    → decode last at (drop at s) ≡ t
+    → stopped n t ≡ plus n (countFrom last (suc fuel) at (drop at s))
 unfolding countFrom
-stop-here s at n fuel (Instr k o z) h e = absurd (⊎-elim (λ q. omega arith) (λ q. omega arith) h)
-stop-here s at n fuel End h e = ap Whole (sym (add-zero n)) ∙ sym (ap (λ (t : Step). plus n (counted (countFrom fuel) at (drop at s) t)) e)
-stop-here s at n fuel (Refused r) h e =
-    ap (λ (k : ℕ). Stopped k r) (sym (add-zero n)) ∙ sym (ap (λ (t : Step). plus n (counted (countFrom fuel) at (drop at s) t)) e)
+stop-here last s at n fuel (Instr k o z) h e = absurd (⊎-elim (λ q. omega arith) (λ q. omega arith) h)
+stop-here last s at n fuel End h e = ap Whole (sym (add-zero n)) ∙ sym (ap (λ (t : Step). plus n (counted (countFrom last fuel) at (drop at s) t)) e)
+stop-here last s at n fuel (Refused r) h e =
+    ap (λ (k : ℕ). Stopped k r) (sym (add-zero n)) ∙ sym (ap (λ (t : Step). plus n (counted (countFrom last fuel) at (drop at s) t)) e)
 
 -- at the end, or at a fault
-pub counting-stop : (s : List ℕ) (at n : ℕ) (t : Step) → OneOf (1 ∷ 2 ∷ []) (tagOf the-type t) → Counting s at n → decode at (drop at s) ≡ t → stopped n t ≡ countOf s
-counting-stop s at n t h c e = go (c .fuel) (c .enough) (c .so-far)
+pub counting-stop : (last : ℕ) (s : List ℕ) (at n : ℕ) (t : Step) → OneOf (1 ∷ 2 ∷ []) (tagOf the-type t)
+    → Counting last s at n → decode last at (drop at s) ≡ t → stopped n t ≡ countOf last s
+counting-stop last s at n t h c e = go (c .fuel) (c .enough) (c .so-far)
   where
-    go : (f : ℕ) → length s < at + f → countOf s ≡ plus n (countFrom f at (drop at s)) → stopped n t ≡ countOf s
+    go : (f : ℕ) → length s < at + f → countOf last s ≡ plus n (countFrom last f at (drop at s))
+        → stopped n t ≡ countOf last s
     go zero l q = let b : ⊥ = omega (arith, c .inside) in absurd b
-    go (suc f) l q = stop-here s at n f t h e ∙ sym q
+    go (suc f) l q = stop-here last s at n f t h e ∙ sym q

@@ -42,7 +42,8 @@ rising-one n m (x ∷ xs) (y ∷ ys) r q to from =
     cc
 
 -- an assignment has one count
-pub counts-one : {s : List ℕ} {a b : ℕ → Option ℕ} {k m : ℕ} → ((o : ℕ) → a o ≡ b o) → Counts s a k → Counts s b m → k ≡ m
+pub counts-one : {last : ℕ} {s : List ℕ} {a b : ℕ → Option ℕ} {k m : ℕ} → ((o : ℕ) → a o ≡ b o) → Counts last s a k
+    → Counts last s b m → k ≡ m
 counts-one {s} {a} {b} {k} {m} same A B = A .count ∙ ap length (rising-one 0 0 (A .starts) (B .starts) (A .rising) (B .rising) to from) ∙ sym (B .count)
   where
     to : (o : ℕ) → List·Memᴰ o (A .starts) → List·Memᴰ o (B .starts)

@@ -11,21 +11,77 @@ use lib.ListN.{length, getD, take, drop, length-drop, drop-of-length-le}
 use lib.Seq.{drop-drop}
 use borrow.Author.Tests.{leb-true, le-leb, lt-leb}
 use Rattle.op.specs.Choice.{pick}
+use Rattle.op.specs.Opcodes.{lastOpcode, known}
 use Rattle.op.specs.Shapes.{shapeOf, operandShape, sizeOf}
 use Rattle.op.specs.declared.Operand.{Operand}
 use Rattle.op.specs.declared.Refusal.{Refusal}
-use Rattle.op.specs.declared.Refusal.the-variants.{UnknownOpcodeAt, CutShort}
+use Rattle.op.specs.declared.Refusal.the-variants.{UnknownOpcode, UnknownOpcodeAt, CutShort}
 use Rattle.op.specs.declared.Shape.{Shape}
 use Rattle.op.specs.declared.Shaped.{Shaped}
 use Rattle.op.specs.declared.Shaped.the-variants as P
 use Rattle.code.specs.declared.Step.{Step}
 use Rattle.code.specs.declared.Step.the-variants.{Instr, End, Refused}
-use Rattle.code.specs.Decode.{operandIn, namesIn, sizeIn, whole, decode, namesBy, namesAt}
+use Rattle.code.specs.Decode.{operandIn, namesIn, sizeIn, stepIn, whole, shapeUpTo, decode, namesBy, namesAt}
 use Rattle.code.proofs.Sizes.{shape-in, size-by-names, fixed-part}
 
--- what `decode at u ≡ Instr k o z` says
-pub record Decoded (u : List ℕ) (k : ℕ) (o : Operand) (z : ℕ) : Type 0 where
+-- shapes under a table
+
+chosen : (b : Bool) (p : Shaped) (r : Refusal) (s : Shape) → pick b p (P.Refused r) ≡ P.Is s → (b ≡ true) × (p ≡ P.Is s)
+chosen true p r s e = (refl, e)
+chosen false p r s e = absurd (let z : _≡_ {A = ℕ} 0 1 = cc in omega arith)
+
+-- an opcode that has a shape is at most the last
+pub shape-below : (last k : ℕ) (s : Shape) → shapeUpTo last k ≡ P.Is s → (k ≤ last) × (shapeOf k ≡ P.Is s)
+unfolding shapeUpTo
+shape-below last k s e = let q = chosen (leb k last) (shapeOf k) UnknownOpcode s e in (leb-true k last (q .0), q .1)
+
+pub below-shape : (last k : ℕ) → k ≤ last → shapeUpTo last k ≡ shapeOf k
+unfolding shapeUpTo
+below-shape last k h = rw (le-leb k last h)
+
+-- document 01's own table has every opcode that has a shape
+same-choice : (b : Bool) (p : Shaped) (r : Refusal)
+    → pick b (pick b p (P.Refused r)) (P.Refused r) ≡ pick b p (P.Refused r)
+same-choice true p r = refl
+same-choice false p r = refl
+
+pub shape-last : (k : ℕ) → shapeUpTo lastOpcode k ≡ shapeOf k
+unfolding shapeUpTo shapeOf known
+shape-last k = same-choice (leb k lastOpcode) _ UnknownOpcode
+
+pub shape-known : (k : ℕ) (s : Shape) → shapeOf k ≡ P.Is s → k ≤ lastOpcode
+shape-known k s e = shape-below lastOpcode k s (shape-last k ∙ e) .0
+
+-- an instruction of a shape
+
+module _ (at : ℕ) (s : Shape) (u : List ℕ) (z : ℕ) (ez : z ≡ sizeIn s u) where
+  pub step-cut : length u < z → Refused (CutShort at) ≡ stepIn at s u
+  unfolding stepIn
+  step-cut l = rw (lt-leb (sizeIn s u) (length u) (omega (arith, ez)))
+
+  pub step-instr : (o : Operand) → o ≡ operandIn s u → z ≤ length u → Instr (getD u 0 0) o z ≡ stepIn at s u
+  unfolding stepIn
+  step-instr o eo l = rw (eo, ez, le-leb (sizeIn s u) (length u) (omega (arith, ez)))
+
+-- the cases of the code, at bytes that are there
+
+by-first : (last at : ℕ) (u : List ℕ) → 0 < length u → whole at (shapeUpTo last (getD u 0 0)) u ≡ decode last at u
+unfolding decode
+by-first last at [] h = absurd (omega arith)
+by-first last at (k ∷ t) h = refl
+
+module _ (last at : ℕ) (u : List ℕ) (h : 0 < length u) where
+  pub decode-unknown : (r : Refusal) → shapeUpTo last (getD u 0 0) ≡ P.Refused r
+      → Refused (UnknownOpcodeAt at) ≡ decode last at u
+  decode-unknown r e = ap (λ (p : Shaped). whole at p u) (sym e) ∙ by-first last at u h
+
+  pub decode-shaped : (s : Shape) → shapeUpTo last (getD u 0 0) ≡ P.Is s → stepIn at s u ≡ decode last at u
+  decode-shaped s e = ap (λ (p : Shaped). whole at p u) (sym e) ∙ by-first last at u h
+
+-- what `decode last at u ≡ Instr k o z` says
+pub record Decoded (last : ℕ) (u : List ℕ) (k : ℕ) (o : Operand) (z : ℕ) : Type 0 where
   pub opcode : k ≡ getD u 0 0
+  pub known : k ≤ last
   pub shape : shapeOf k ≡ P.Is (operandShape o)
   pub operand : o ≡ operandIn (operandShape o) u
   pub size : z ≡ sizeOf (operandShape o) (namesIn o)
@@ -39,41 +95,20 @@ picked true a b x e n = (refl, e)
 picked false a b x e n = absurd (n e)
 
 -- an instruction that is there decodes
-pub decode-whole : (at k : ℕ) (t : List ℕ) (s : Shape) (o : Operand) → shapeOf k ≡ P.Is s → operandIn s (k ∷ t) ≡ o
-    → sizeOf s (namesIn o) ≤ length (k ∷ t) → decode at (k ∷ t) ≡ Instr k o (sizeOf s (namesIn o))
-unfolding decode
-decode-whole at k t s o e eo h = rw (e, eo, le-leb (sizeOf s (namesIn o)) (length (k ∷ t)) h)
-
--- the cases of the code, at bytes that are there
-
-by-first : (at : ℕ) (u : List ℕ) → 0 < length u → whole at (getD u 0 0) (shapeOf (getD u 0 0)) u ≡ decode at u
-unfolding decode
-by-first at [] h = absurd (omega arith)
-by-first at (k ∷ t) h = refl
-
-module _ (at : ℕ) (u : List ℕ) (h : 0 < length u) where
-  pub decode-unknown : (r : Refusal) → shapeOf (getD u 0 0) ≡ P.Refused r → Refused (UnknownOpcodeAt at) ≡ decode at u
-  decode-unknown r e = ap (λ (p : Shaped). whole at (getD u 0 0) p u) (sym e) ∙ by-first at u h
-
-  module _ (s : Shape) (is : shapeOf (getD u 0 0) ≡ P.Is s) (z : ℕ) (ez : z ≡ sizeIn s u) where
-    by-size : (b : Bool) → leb (sizeIn s u) (length u) ≡ b → pick b (Instr (getD u 0 0) (operandIn s u) (sizeIn s u)) (Refused (CutShort at)) ≡ decode at u
-    by-size b e =
-        ap (λ (x : Bool). pick x (Instr (getD u 0 0) (operandIn s u) (sizeIn s u)) (Refused (CutShort at))) (sym e)
-        ∙ ap (λ (p : Shaped). whole at (getD u 0 0) p u) (sym is) ∙ by-first at u h
-
-    pub decode-cut : length u < z → Refused (CutShort at) ≡ decode at u
-    decode-cut l = by-size false (lt-leb (sizeIn s u) (length u) (omega (arith, ez)))
-
-    pub decode-instr : (o : Operand) → o ≡ operandIn s u → z ≤ length u → Instr (getD u 0 0) o z ≡ decode at u
-    decode-instr o eo l = rw (eo, ez) (by-size true (le-leb (sizeIn s u) (length u) (omega (arith, ez))))
+pub decode-whole : (last at k : ℕ) (t : List ℕ) (s : Shape) (o : Operand) → k ≤ last → shapeOf k ≡ P.Is s
+    → operandIn s (k ∷ t) ≡ o
+    → sizeOf s (namesIn o) ≤ length (k ∷ t) → decode last at (k ∷ t) ≡ Instr k o (sizeOf s (namesIn o))
+unfolding decode stepIn
+decode-whole last at k t s o l e eo h = rw (below-shape last k l, e, eo, le-leb (sizeOf s (namesIn o)) (length (k ∷ t)) h)
 
 -- what it says that they decode
 
 no-fault : {k : ℕ} {o : Operand} {z : ℕ} {r : Refusal} → Refused r ≡ Instr k o z → ⊥
 no-fault q = let x : _≡_ {A = ℕ} 0 1 = cc in omega arith
 
-module _ (u : List ℕ) (k : ℕ) (s : Shape) (e : shapeOf k ≡ P.Is s) (ek : k ≡ getD u 0 0) (h : sizeIn s u ≤ length u) where
-  read : Decoded u k (operandIn s u) (sizeIn s u)
+module _ (last : ℕ) (u : List ℕ) (k : ℕ) (s : Shape) (l : k ≤ last) (e : shapeOf k ≡ P.Is s) (ek : k ≡ getD u 0 0)
+    (h : sizeIn s u ≤ length u) where
+  read : Decoded last u k (operandIn s u) (sizeIn s u)
   read =
       let o = operandIn s u in
       let es : s ≡ operandShape o = sym (shape-in s u) in
@@ -81,6 +116,7 @@ module _ (u : List ℕ) (k : ℕ) (s : Shape) (e : shapeOf k ≡ P.Is s) (ek : k
       let eb : sizeIn s u ≡ sizeOf (operandShape o) 0 + 2 * namesIn o = ez ∙ size-by-names o in
       record {
         opcode = ek;
+        known = l;
         shape = e ∙ ap P.Is es;
         operand = ap (λ (x : Shape). operandIn x u) es;
         size = ez;
@@ -89,8 +125,9 @@ module _ (u : List ℕ) (k : ℕ) (s : Shape) (e : shapeOf k ≡ P.Is s) (ek : k
         fits = h;
       }
 
-module _ (at k′ : ℕ) (t : List ℕ) (k : ℕ) (o : Operand) (z : ℕ) where
-  by-shape : (p : Shaped) → shapeOf k′ ≡ p → whole at k′ p (k′ ∷ t) ≡ Instr k o z → Decoded (k′ ∷ t) k o z
+module _ (last at k′ : ℕ) (t : List ℕ) (k : ℕ) (o : Operand) (z : ℕ) where
+  by-shape : (p : Shaped) → shapeUpTo last k′ ≡ p → whole at p (k′ ∷ t) ≡ Instr k o z → Decoded last (k′ ∷ t) k o z
+  unfolding stepIn
   by-shape (P.Refused r) ep e = absurd (no-fault e)
   by-shape (P.Is s) ep e =
       let u : List ℕ = k′ ∷ t in
@@ -99,66 +136,98 @@ module _ (at k′ : ℕ) (t : List ℕ) (k : ℕ) (o : Operand) (z : ℕ) where
       let ek : k ≡ k′ = cc in
       let eo : o ≡ operandIn s u = cc in
       let ez : z ≡ sizeIn s u = cc in
-      rw (ek, eo, ez) (read u k′ s ep refl (leb-true (sizeIn s u) (length u) (f .0)))
+      let b = shape-below last k′ s ep in
+      rw (ek, eo, ez) (read last u k′ s (b .0) (b .1) refl (leb-true (sizeIn s u) (length u) (f .0)))
 
 -- an instruction that decodes is there
-pub decoded : (at : ℕ) (u : List ℕ) (k : ℕ) (o : Operand) (z : ℕ) → decode at u ≡ Instr k o z → Decoded u k o z
+pub decoded : (last at : ℕ) (u : List ℕ) (k : ℕ) (o : Operand) (z : ℕ) → decode last at u ≡ Instr k o z
+    → Decoded last u k o z
 unfolding decode
-decoded at [] k o z e = let x : _≡_ {A = ℕ} 0 1 = cc in absurd (omega arith)
-decoded at (k′ ∷ t) k o z e = by-shape at k′ t k o z (shapeOf k′) refl e
+decoded last at [] k o z e = let x : _≡_ {A = ℕ} 0 1 = cc in absurd (omega arith)
+decoded last at (k′ ∷ t) k o z e = by-shape last at k′ t k o z (shapeUpTo last k′) refl e
 
 -- the other way: `Decoded` says all of it
-pub decodes : (at : ℕ) (u : List ℕ) (k : ℕ) (o : Operand) (z : ℕ) → Decoded u k o z → decode at u ≡ Instr k o z
-decodes at [] k o z d = absurd (omega (arith, d .some, d .fits))
-decodes at (k′ ∷ t) k o z d =
+pub decodes : (last at : ℕ) (u : List ℕ) (k : ℕ) (o : Operand) (z : ℕ) → Decoded last u k o z
+    → decode last at u ≡ Instr k o z
+decodes last at [] k o z d = absurd (omega (arith, d .some, d .fits))
+decodes last at (k′ ∷ t) k o z d =
     let e : shapeOf k′ ≡ P.Is (operandShape o) = ap shapeOf (sym (d .opcode)) ∙ d .shape in
-    rw (d .opcode, d .size) (decode-whole at k′ t (operandShape o) o e (sym (d .operand)) (omega (arith, d .size, d .fits)))
+    rw (d .opcode, d .size)
+    (decode-whole last at k′ t (operandShape o) o (omega (arith, d .opcode, d .known)) e (sym (d .operand)) (omega (arith, d .size, d .fits)))
 
 -- the offset names a fault's place, and nothing else goes by it
-pub decode-anywhere : (at at′ : ℕ) (u : List ℕ) (k : ℕ) (o : Operand) (z : ℕ) → decode at u ≡ Instr k o z → decode at′ u ≡ Instr k o z
-decode-anywhere at at′ u k o z e = decodes at′ u k o z (decoded at u k o z e)
+pub decode-anywhere : (last at at′ : ℕ) (u : List ℕ) (k : ℕ) (o : Operand) (z : ℕ) → decode last at u ≡ Instr k o z
+    → decode last at′ u ≡ Instr k o z
+decode-anywhere last at at′ u k o z e = decodes last at′ u k o z (decoded last at u k o z e)
+
+-- an instruction is the same under every table that has its opcode
+pub decode-under : (last last′ at : ℕ) (u : List ℕ) (k : ℕ) (o : Operand) (z : ℕ) → decode last at u ≡ Instr k o z
+    → k ≤ last′
+    → decode last′ at u ≡ Instr k o z
+decode-under last last′ at u k o z e l =
+    let d = decoded last at u k o z e in
+    decodes last′ at u k o z (record {
+      opcode = d .opcode;
+      known = l;
+      shape = d .shape;
+      operand = d .operand;
+      size = d .size;
+      some = d .some;
+      base = d .base;
+      fits = d .fits;
+    })
+
+-- so what decodes under a table decodes the same under a longer one
+pub decode-longer : (last last′ at : ℕ) (u : List ℕ) (k : ℕ) (o : Operand) (z : ℕ) → last ≤ last′
+    → decode last at u ≡ Instr k o z
+    → decode last′ at u ≡ Instr k o z
+decode-longer last last′ at u k o z l e = decode-under last last′ at u k o z e (omega (arith, decoded last at u k o z e .known))
 
 -- at or past the end, and only there, stands End
-pub decode-past : (at : ℕ) (s : List ℕ) → length s ≤ at → decode at (drop at s) ≡ End
+pub decode-past : (last at : ℕ) (s : List ℕ) → length s ≤ at → decode last at (drop at s) ≡ End
 unfolding decode
-decode-past at s h = rw (drop-of-length-le s {i = at} h)
+decode-past last at s h = rw (drop-of-length-le s {i = at} h)
 
 no-end : (b : Bool) (k : ℕ) (o : Operand) (z : ℕ) (r : Refusal) (n : ℕ) → pick b (Instr k o z) (Refused r) ≡ End → n ≡ 0
 no-end true k o z r n e = cc
 no-end false k o z r n e = cc
 
-not-ended : (at k : ℕ) (t : List ℕ) (p : Shaped) → whole at k p (k ∷ t) ≡ End → length (k ∷ t) ≡ 0
+not-ended : (at k : ℕ) (t : List ℕ) (p : Shaped) → whole at p (k ∷ t) ≡ End → length (k ∷ t) ≡ 0
+unfolding stepIn
 not-ended at k t (P.Refused r) e = cc
 not-ended at k t (P.Is s) e =
     let u : List ℕ = k ∷ t in
     no-end (leb (sizeIn s u) (length u)) k (operandIn s u) (sizeIn s u) (CutShort at) (length u) e
 
-pub decode-end : (at : ℕ) (u : List ℕ) → decode at u ≡ End → length u ≡ 0
+pub decode-end : (last at : ℕ) (u : List ℕ) → decode last at u ≡ End → length u ≡ 0
 unfolding decode
-decode-end at [] e = refl
-decode-end at (k ∷ t) e = not-ended at k t (shapeOf k) e
+decode-end last at [] e = refl
+decode-end last at (k ∷ t) e = not-ended at k t (shapeUpTo last k) e
 
 -- a fault is 1 or 22, at that offset
 fault-of : (b : Bool) (k : ℕ) (o : Operand) (z : ℕ) (r′ r : Refusal) → pick b (Instr k o z) (Refused r′) ≡ Refused r → r ≡ r′
 fault-of true k o z r′ r e = let x : _≡_ {A = ℕ} 0 1 = cc in absurd (omega arith)
 fault-of false k o z r′ r e = cc
 
-fault-by : (at k : ℕ) (u : List ℕ) (p : Shaped) (r : Refusal) → whole at k p u ≡ Refused r → (r ≡ UnknownOpcodeAt at) ⊎ (r ≡ CutShort at)
-fault-by at k u (P.Refused x) r e = inl cc
-fault-by at k u (P.Is s) r e = inr (fault-of (leb (sizeIn s u) (length u)) k (operandIn s u) (sizeIn s u) (CutShort at) r e)
+fault-by : (at : ℕ) (u : List ℕ) (p : Shaped) (r : Refusal) → whole at p u ≡ Refused r
+    → (r ≡ UnknownOpcodeAt at) ⊎ (r ≡ CutShort at)
+unfolding stepIn
+fault-by at u (P.Refused x) r e = inl cc
+fault-by at u (P.Is s) r e = inr (fault-of (leb (sizeIn s u) (length u)) (getD u 0 0) (operandIn s u) (sizeIn s u) (CutShort at) r e)
 
-pub decode-fault : (at : ℕ) (u : List ℕ) (r : Refusal) → decode at u ≡ Refused r → (r ≡ UnknownOpcodeAt at) ⊎ (r ≡ CutShort at)
+pub decode-fault : (last at : ℕ) (u : List ℕ) (r : Refusal) → decode last at u ≡ Refused r
+    → (r ≡ UnknownOpcodeAt at) ⊎ (r ≡ CutShort at)
 unfolding decode
-decode-fault at [] r e = let x : _≡_ {A = ℕ} 0 1 = cc in absurd (omega arith)
-decode-fault at (k ∷ t) r e = fault-by at k (k ∷ t) (shapeOf k) r e
+decode-fault last at [] r e = let x : _≡_ {A = ℕ} 0 1 = cc in absurd (omega arith)
+decode-fault last at (k ∷ t) r e = fault-by at (k ∷ t) (shapeUpTo last k) r e
 
 -- the names' bytes are the last of the instruction
-pub names-part : (u : List ℕ) (k : ℕ) (o : Operand) (z : ℕ) → Decoded u k o z
-    → namesAt u ≡ take (2 * namesIn o) (drop (sizeOf (operandShape o) 0) u)
+pub names-part : (last : ℕ) (u : List ℕ) (k : ℕ) (o : Operand) (z : ℕ) → Decoded last u k o z
+    → namesAt last u ≡ take (2 * namesIn o) (drop (sizeOf (operandShape o) 0) u)
 unfolding namesAt
-names-part u k o z d =
+names-part last u k o z d =
     let e : z - 2 * namesIn o ≡ sizeOf (operandShape o) 0 = omega (arith, d .base) in
-    ap (λ (x : Step). namesBy x u) (decodes 0 u k o z d) ∙ ap (λ (i : ℕ). take (2 * namesIn o) (drop i u)) e
+    ap (λ (x : Step). namesBy x u) (decodes last 0 u k o z d) ∙ ap (λ (i : ℕ). take (2 * namesIn o) (drop i u)) e
 
 -- the names do not go by the offset either
 same-names : (b : Bool) (k : ℕ) (o : Operand) (z : ℕ) (r r′ : Refusal) (u : List ℕ)
@@ -166,27 +235,30 @@ same-names : (b : Bool) (k : ℕ) (o : Operand) (z : ℕ) (r r′ : Refusal) (u 
 same-names true k o z r r′ u = refl
 same-names false k o z r r′ u = refl
 
-names-by-shape : (at k : ℕ) (u : List ℕ) (p : Shaped) → namesBy (whole 0 k p u) u ≡ namesBy (whole at k p u) u
-names-by-shape at k u (P.Refused r) = refl
-names-by-shape at k u (P.Is s) = same-names (leb (sizeIn s u) (length u)) k (operandIn s u) (sizeIn s u) (CutShort 0) (CutShort at) u
+names-by-shape : (at : ℕ) (u : List ℕ) (p : Shaped) → namesBy (whole 0 p u) u ≡ namesBy (whole at p u) u
+unfolding stepIn
+names-by-shape at u (P.Refused r) = refl
+names-by-shape at u (P.Is s) = same-names (leb (sizeIn s u) (length u)) (getD u 0 0) (operandIn s u) (sizeIn s u) (CutShort 0) (CutShort at) u
 
-pub names-anywhere : (at : ℕ) (u : List ℕ) → namesAt u ≡ namesBy (decode at u) u
+pub names-anywhere : (last at : ℕ) (u : List ℕ) → namesAt last u ≡ namesBy (decode last at u) u
 unfolding namesAt decode
-names-anywhere at [] = refl
-names-anywhere at (k ∷ t) = names-by-shape at k (k ∷ t) (shapeOf k)
+names-anywhere last at [] = refl
+names-anywhere last at (k ∷ t) = names-by-shape at (k ∷ t) (shapeUpTo last k)
 
 -- an instruction of the code stands in it
-pub decoded-ends : (at : ℕ) (s : List ℕ) (k : ℕ) (o : Operand) (z : ℕ) → decode at (drop at s) ≡ Instr k o z → (0 < z) × (at + z ≤ length s)
-decoded-ends at s k o z e =
-    let d = decoded at (drop at s) k o z e in
+pub decoded-ends : (last at : ℕ) (s : List ℕ) (k : ℕ) (o : Operand) (z : ℕ) → decode last at (drop at s) ≡ Instr k o z
+    → (0 < z) × (at + z ≤ length s)
+decoded-ends last at s k o z e =
+    let d = decoded last at (drop at s) k o z e in
     (d .some, omega (arith, d .some, d .fits, length-drop at s))
 
 -- the part of the code that holds the names
-pub names-in-code : (s : List ℕ) (at k : ℕ) (o : Operand) (z n : ℕ) → decode at (drop at s) ≡ Instr k o z → n ≡ namesIn o
-    → take (at + z - (at + z - 2 * n)) (drop (at + z - 2 * n) s) ≡ namesAt (drop at s)
-names-in-code s at k o z n e en =
-    let d = decoded at (drop at s) k o z e in
+pub names-in-code : (last : ℕ) (s : List ℕ) (at k : ℕ) (o : Operand) (z n : ℕ)
+    → decode last at (drop at s) ≡ Instr k o z → n ≡ namesIn o
+    → take (at + z - (at + z - 2 * n)) (drop (at + z - 2 * n) s) ≡ namesAt last (drop at s)
+names-in-code last s at k o z n e en =
+    let d = decoded last at (drop at s) k o z e in
     let l : 2 * n ≤ z = omega (arith, d .base) in
     let a : at + z - (at + z - 2 * n) ≡ 2 * namesIn o = omega arith in
     let b : at + z - 2 * n ≡ at + sizeOf (operandShape o) 0 = omega (arith, d .base) in
-    rw (a, b, ← drop-drop (sizeOf (operandShape o) 0) at s) (sym (names-part (drop at s) k o z d))
+    rw (a, b, ← drop-drop (sizeOf (operandShape o) 0) at s) (sym (names-part last (drop at s) k o z d))

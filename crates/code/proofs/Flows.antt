@@ -24,6 +24,7 @@ use Rattle.op.specs.declared.Shape.{Shape}
 use Rattle.op.specs.declared.Shaped.the-variants as P
 use Rattle.op.proofs.Effected.{shape-is, effect-fits}
 use Rattle.op.proofs.Keys.{in-range}
+use Rattle.op.proofs.Listed.{known-row}
 use Rattle.op.proofs.Rules.{rule-small}
 use Rattle.code.specs.declared.Change.{Change}
 use Rattle.code.specs.declared.Flow.{Flow}
@@ -97,43 +98,45 @@ goal-next at z end (O.CallKw positional names) e = refl
 goal-next at z end (O.CallAttrKw attribute positional names) e = refl
 goal-next at z end (O.U16U16U8 a b c) e = refl
 
-module _ (at : ℕ) (s : List ℕ) where
-  pub flow-op : (k : ℕ) (o : Operand) (z : ℕ) → decode at (drop at s) ≡ Instr k o z → F.Op (flowBy (at + z) (length s) k o z) ≡ flowOf at (drop at s)
+module _ (last at : ℕ) (s : List ℕ) where
+  pub flow-op : (k : ℕ) (o : Operand) (z : ℕ) → decode last at (drop at s) ≡ Instr k o z
+      → F.Op (flowBy (at + z) (length s) k o z) ≡ flowOf last at (drop at s)
   unfolding flowOf
   flow-op k o z e =
-      let d = decoded at (drop at s) k o z e in
+      let d = decoded last at (drop at s) k o z e in
       let l : at + length (drop at s) ≡ length s = omega (arith, length-drop at s, d .some, d .fits) in
       rw (e, l, goal-next at z (length s) o (d .size))
 
-  pub flow-end : decode at (drop at s) ≡ End → F.End ≡ flowOf at (drop at s)
+  pub flow-end : decode last at (drop at s) ≡ End → F.End ≡ flowOf last at (drop at s)
   unfolding flowOf
   flow-end e = rw e
 
-  pub flow-refused : (r : Refusal) → decode at (drop at s) ≡ Refused r → F.Refused r ≡ flowOf at (drop at s)
+  pub flow-refused : (r : Refusal) → decode last at (drop at s) ≡ Refused r → F.Refused r ≡ flowOf last at (drop at s)
   unfolding flowOf
   flow-refused r e = rw e
 
 -- what callers need
 
 -- the instruction behind a flow, and where it stands
-pub record Flowed (at : ℕ) (s : List ℕ) (f : Flow) : Type 0 where
+pub record Flowed (last at : ℕ) (s : List ℕ) (f : Flow) : Type 0 where
   pub opcode : ℕ
   pub operand : Operand
-  pub step : decode at (drop at s) ≡ Instr opcode operand (f .size)
+  pub step : decode last at (drop at s) ≡ Instr opcode operand (f .size)
   pub flow : f ≡ flowBy (at + 3) (length s) opcode operand (f .size)
   pub some : 0 < f .size
   pub ends : at + f .size ≤ length s
 
-flowed-by : (at : ℕ) (s : List ℕ) (f : Flow) (x : Step) → decode at (drop at s) ≡ x → flowingBy at (at + length (drop at s)) x ≡ F.Op f → Flowed at s f
-flowed-by at s f End ex e = let z : _≡_ {A = ℕ} 0 1 = cc in absurd (omega arith)
-flowed-by at s f (Refused r) ex e = let z : _≡_ {A = ℕ} 0 1 = cc in absurd (omega arith)
-flowed-by at s f (Instr k o z) ex e =
-    let d = decoded at (drop at s) k o z ex in
+flowed-by : (last at : ℕ) (s : List ℕ) (f : Flow) (x : Step) → decode last at (drop at s) ≡ x
+    → flowingBy at (at + length (drop at s)) x ≡ F.Op f → Flowed last at s f
+flowed-by last at s f End ex e = let z : _≡_ {A = ℕ} 0 1 = cc in absurd (omega arith)
+flowed-by last at s f (Refused r) ex e = let z : _≡_ {A = ℕ} 0 1 = cc in absurd (omega arith)
+flowed-by last at s f (Instr k o z) ex e =
+    let d = decoded last at (drop at s) k o z ex in
     let l : at + length (drop at s) ≡ length s = omega (arith, length-drop at s, d .some, d .fits) in
     let q : flowBy (at + 3) (at + length (drop at s)) k o z ≡ f = cc in
     let ef : f ≡ flowBy (at + 3) (length s) k o z = rw l at (sym q) in
     let ez : z ≡ f .size = sym (ap (λ (g : Flow). g .size) ef) in
-    let b = decoded-ends at s k o z ex in
+    let b = decoded-ends last at s k o z ex in
     record {
       opcode = k;
       operand = o;
@@ -143,9 +146,9 @@ flowed-by at s f (Instr k o z) ex e =
       ends = omega (arith, b .1, ez);
     }
 
-pub flowed : (at : ℕ) (s : List ℕ) (f : Flow) → flowOf at (drop at s) ≡ F.Op f → Flowed at s f
+pub flowed : (last at : ℕ) (s : List ℕ) (f : Flow) → flowOf last at (drop at s) ≡ F.Op f → Flowed last at s f
 unfolding flowOf
-flowed at s f e = flowed-by at s f (decode at (drop at s)) refl e
+flowed last at s f e = flowed-by last at s f (decode last at (drop at s)) refl e
 
 -- a goal in the code is an offset or the end
 chosen : (b : Bool) (x t : ℕ) → pick b (To x) Outside ≡ To t → (b ≡ true) × (x ≡ t)
@@ -224,12 +227,11 @@ agreed true false t = absurd t
 agreed false true t = absurd t
 agreed false false t = refl
 
-jump-row : (k : ℕ) → k < 131 → eqb (shapeNumber (shapeIn (rowOf k))) 4 ≡ isBy (takenOf k)
+jump-row : (k : ℕ) → k < length table → eqb (shapeNumber (shapeIn (rowOf k))) 4 ≡ isBy (takenOf k)
 unfolding rowOf table takenOf known agree
-jump-row k h = agreed _ _ (in-range (λ (i : ℕ). agree (eqb (shapeNumber (shapeIn (rowOf i))) 4) (isBy (takenOf i))) 0 131 k (omega arith) (omega arith) tt)
+jump-row k h = agreed _ _ (in-range (λ (i : ℕ). agree (eqb (shapeNumber (shapeIn (rowOf i))) 4) (isBy (takenOf i))) 0 (length table) k (omega arith) (omega arith) tt)
 
 pub jumps-by-shape : (k : ℕ) (s : Shape) → shapeOf k ≡ P.Is s → isBy (takenOf k) ≡ eqb (shapeNumber s) 4
-unfolding known
 jumps-by-shape k s e =
     let q = shape-is k s e in
-    rw (← q .1) (sym (jump-row k (omega (arith, leb-true k 130 (q .0)))))
+    rw (← q .1) (sym (jump-row k (known-row k .0 (q .0))))

@@ -90,9 +90,9 @@ read-back k (O.CallKw positional names) t r = refl
 read-back k (O.CallAttrKw attribute positional names) t r = cc (word attribute)
 read-back k (O.U16U16U8 a b c) t r = cc (word a, word b)
 
-module _ (k : ℕ) (o : Operand) (names rest : List ℕ) (f : Formed k o names) where
-  -- whatever follows
-  pub decode-encode : (at : ℕ) → decode at (encode k o names ++ rest) ≡ Instr k o (length (encode k o names))
+-- under each table that has the opcode, whatever follows
+module _ (last k : ℕ) (o : Operand) (names rest : List ℕ) (l : k ≤ last) (f : Formed k o names) where
+  pub decode-encode : (at : ℕ) → decode last at (encode k o names ++ rest) ≡ Instr k o (length (encode k o names))
   unfolding encode
   decode-encode at =
       let s = operandShape o in
@@ -100,17 +100,17 @@ module _ (k : ℕ) (o : Operand) (names rest : List ℕ) (f : Formed k o names) 
       let a : t ≡ operandBytes o ++ (namesBytes names ++ rest) = append-assoc (operandBytes o) (namesBytes names) rest in
       let b : operandIn s (k ∷ t) ≡ o = ap (λ (x : List ℕ). operandIn s (k ∷ x)) a ∙ read-back k o (namesBytes names ++ rest) (f .signs) in
       let z : sizeOf s (namesIn o) ≡ length (encode k o names) = ap (sizeOf s) (f .count) ∙ sym (length-encode k o names (f .count)) in
-      decode-whole at k t s o (f .shape) b (omega (arith, z, length-append (encode k o names) rest)) ∙ ap (Instr k o) z
+      decode-whole last at k t s o l (f .shape) b (omega (arith, z, length-append (encode k o names) rest)) ∙ ap (Instr k o) z
 
-  pub names-encode : namesAt (encode k o names ++ rest) ≡ namesBytes names
+  pub names-encode : namesAt last (encode k o names ++ rest) ≡ namesBytes names
   unfolding encode
   names-encode =
       let p : List ℕ = k ∷ operandBytes o in
       let u : List ℕ = p ++ (namesBytes names ++ rest) in
       let a : encode k o names ++ rest ≡ u = ap (λ (x : List ℕ). k ∷ x) (append-assoc (operandBytes o) (namesBytes names) rest) in
-      let l : length (namesBytes names) ≡ 2 * namesIn o = omega (arith, length-names names, f .count) in
-      names-part (encode k o names ++ rest) k o (length (encode k o names)) (decoded 0 (encode k o names ++ rest) k o (length (encode k o names)) (decode-encode 0))
-      ∙ rw (a, drop-at p (namesBytes names ++ rest) (sizeOf (operandShape o) 0) (length-operand o)) (take-at (namesBytes names) rest (2 * namesIn o) l)
+      let b : length (namesBytes names) ≡ 2 * namesIn o = omega (arith, length-names names, f .count) in
+      names-part last (encode k o names ++ rest) k o (length (encode k o names)) (decoded last 0 (encode k o names ++ rest) k o (length (encode k o names)) (decode-encode 0))
+      ∙ rw (a, drop-at p (namesBytes names ++ rest) (sizeOf (operandShape o) 0) (length-operand o)) (take-at (namesBytes names) rest (2 * namesIn o) b)
 
 -- what decodes is written back
 
@@ -156,14 +156,14 @@ module _ (u : List ℕ) (bytes : (i : ℕ) → getD u i 0 < 256) where
   written-back S.CallAttrKw = cc (low 1, high 1)
   written-back S.U16U16U8 = cc (low 1, high 1, low 3, high 3)
 
-  module _ (k : ℕ) (o : Operand) (z : ℕ) (d : Decoded u k o z) where
+  module _ (last k : ℕ) (o : Operand) (z : ℕ) (d : Decoded last u k o z) where
     fixed : k ∷ operandBytes o ≡ take (sizeOf (operandShape o) 0) u
     fixed =
         let s = operandShape o in
         let e : operandBytes o ≡ operandBytes (operandIn s u) = ap operandBytes (d .operand) in
         rw (take-reads (sizeOf s 0) u (omega (arith, d .base, d .fits)), ← written-back s, ← d .opcode, ← e)
 
-    pub encode-decode : encode k o (wordsIn (namesAt u)) ≡ take z u
+    pub encode-decode : encode k o (wordsIn (namesAt last u)) ≡ take z u
     unfolding encode
     encode-decode =
         let b = sizeOf (operandShape o) 0 in
@@ -171,5 +171,5 @@ module _ (u : List ℕ) (bytes : (i : ℕ) → getD u i 0 < 256) where
         let x : List ℕ = take (2 * n) (drop b u) in
         let l : length x ≡ 2 * n = length-take-le (2 * n) (drop b u) (rw length-drop (omega (arith, d .base, d .fits))) in
         let small : ((i : ℕ) → getD x i 0 < 256) = take-below (2 * n) (drop b u) (λ (i : ℕ). rw getD-drop (bytes (b + i))) in
-        let e : namesBytes (wordsIn (namesAt u)) ≡ x = ap (λ (y : List ℕ). namesBytes (wordsIn y)) (names-part u k o z d) ∙ names-words n x l small in
+        let e : namesBytes (wordsIn (namesAt last u)) ≡ x = ap (λ (y : List ℕ). namesBytes (wordsIn y)) (names-part last u k o z d) ∙ names-words n x l small in
         ap (λ (y : List ℕ). k ∷ (operandBytes o ++ y)) e ∙ ap (λ (y : List ℕ). y ++ x) fixed ∙ sym (take-add b (2 * n) u) ∙ ap (λ (i : ℕ). take i u) (sym (d .base))

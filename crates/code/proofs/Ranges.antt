@@ -53,7 +53,7 @@ module _ (u : List ℕ) (bytes : (i : ℕ) → getD u i 0 < 256) where
   in-range S.U16U16U8 = (word-small 1, word-small 3, bytes 5)
 
   -- what is read from bytes is in range
-  pub decoded-range : (k : ℕ) (o : Operand) (z : ℕ) → Decoded u k o z → InRange o
+  pub decoded-range : {last : ℕ} (k : ℕ) (o : Operand) (z : ℕ) → Decoded last u k o z → InRange o
   decoded-range k o z d = rw (d .operand) (in-range (operandShape o))
 
 -- and so are the two numbers that effects go by

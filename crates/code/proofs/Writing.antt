@@ -161,14 +161,14 @@ module _ (k : ℕ) (o : Operand) (names out : List ℕ) (answer : Written) (out�
   pub written-length : z ≡ length (encode k o names)
   written-length = let g = goes k o (length names) (length out) z is in g .size ∙ sym (length-encode k o names (g .count))
 
-  -- decodes to what was given
+  -- decodes to what was given, under each table that has the opcode
   module _ (signs : SignsFit o) where
     formed : Formed k o names
     formed = let g = goes k o (length names) (length out) z is in record { shape = g .shape; signs = signs; count = g .count }
 
-    pub written-decodes : (at : ℕ) → decode at out′ ≡ Instr k o z
-    written-decodes at =
-        rw (written-front, written-length) (decode-encode k o names (drop (length (encode k o names)) out) formed at)
+    pub written-decodes : (last : ℕ) → k ≤ last → (at : ℕ) → decode last at out′ ≡ Instr k o z
+    written-decodes last l at =
+        rw (written-front, written-length) (decode-encode last k o names (drop (length (encode k o names)) out) l formed at)
 
-    pub written-names : namesAt out′ ≡ namesBytes names
-    written-names = rw written-front (names-encode k o names (drop (length (encode k o names)) out) formed)
+    pub written-names : (last : ℕ) → k ≤ last → namesAt last out′ ≡ namesBytes names
+    written-names last l = rw written-front (names-encode last k o names (drop (length (encode k o names)) out) l formed)

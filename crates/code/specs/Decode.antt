@@ -1,15 +1,16 @@
 -- The instruction at the front of some bytes: document 01, "Bytes and depths", and its second module, the decoder.
+-- The table of opcodes is a parameter, told by its last opcode, `last`.
 -- Assumes nothing.
-use mathlib.Core.Path.{_≡_}
 use mathlib.Core.List.{List, [], _∷_}
-use Prim.Native.Nat.{ℕ, _-_, _*_, _<_}
+use Prim.Native.Nat.{ℕ, _-_, _*_}
 use lib.Dec.{leb}
 use lib.ListN.{length, getD, take, drop}
 use Rattle.op.specs.Choice.{pick}
+use Rattle.op.specs.Opcodes.{knownUpTo}
 use Rattle.op.specs.Shapes.{shapeOf, sizeOf}
 use Rattle.op.specs.declared.Operand.{Operand}
 use Rattle.op.specs.declared.Operand.the-variants as O
-use Rattle.op.specs.declared.Refusal.the-variants.{UnknownOpcodeAt, CutShort}
+use Rattle.op.specs.declared.Refusal.the-variants.{UnknownOpcode, UnknownOpcodeAt, CutShort}
 use Rattle.op.specs.declared.Shape.{Shape}
 use Rattle.op.specs.declared.Shape.the-variants as S
 use Rattle.op.specs.declared.Shaped.{Shaped}
@@ -52,15 +53,25 @@ namesIn (O.U16U16U8 a b c) = 0
 abbrev pub sizeIn : Shape → List ℕ → ℕ
 sizeIn s u = sizeOf s (namesIn (operandIn s u))
 
--- "instruction cut short": its size exceeds what is there
-abbrev pub whole : ℕ → ℕ → Shaped → List ℕ → Step
-whole at k (P.Is s) u = pick (leb (sizeIn s u) (length u)) (Instr k (operandIn s u) (sizeIn s u)) (Refused (CutShort at))
-whole at k (P.Refused r) u = Refused (UnknownOpcodeAt at)
+-- an instruction of a shape at the front of u, the code from an offset on; 22, "instruction cut short", where its size
+-- exceeds what is there
+unfoldable pub stepIn : ℕ → Shape → List ℕ → Step
+stepIn at s u =
+    pick (leb (sizeIn s u) (length u)) (Instr (getD u 0 0) (operandIn s u) (sizeIn s u)) (Refused (CutShort at))
+
+-- 1, "if read, names its offset"
+abbrev pub whole : ℕ → Shaped → List ℕ → Step
+whole at (P.Is s) u = stepIn at s u
+whole at (P.Refused r) u = Refused (UnknownOpcodeAt at)
+
+-- an opcode's shape, or 1 above the table's last opcode
+unfoldable pub shapeUpTo : ℕ → ℕ → Shaped
+shapeUpTo last k = pick (knownUpTo last k) (shapeOf k) (P.Refused UnknownOpcode)
 
 -- the instruction at the front of u, the code from an offset on; the offset only names a fault's place
-unfoldable pub decode : ℕ → List ℕ → Step
-decode at [] = End
-decode at (k ∷ u) = whole at k (shapeOf k) (k ∷ u)
+unfoldable pub decode : ℕ → ℕ → List ℕ → Step
+decode last at [] = End
+decode last at (k ∷ u) = whole at (shapeUpTo last k) (k ∷ u)
 
 -- the bytes of the keyword names, the last of an instruction
 abbrev pub namesBy : Step → List ℕ → List ℕ
@@ -69,10 +80,5 @@ namesBy End u = []
 namesBy (Refused r) u = []
 
 -- "empty on a fault or without names"
-unfoldable pub namesAt : List ℕ → List ℕ
-namesAt u = namesBy (decode 0 u) u
-
--- bytes that begin with an opcode of a shape
-pub record Front (s : Shape) (u : List ℕ) : Type 0 where
-  pub some : 0 < length u
-  pub shape : shapeOf (getD u 0 0) ≡ P.Is s
+unfoldable pub namesAt : ℕ → List ℕ → List ℕ
+namesAt last u = namesBy (decode last 0 u) u

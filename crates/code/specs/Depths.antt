@@ -1,5 +1,6 @@
 -- Depths of the code: document 01, "The depth checker". Instruction starts, assignments of depths, the smallest one, and the depths
--- that a path from a start leads to. Here s is the code, st the lent starts, and an assignment gives an offset a depth or none.
+-- that a path from a start leads to. Here `last` is the last opcode of the table, s the code, st the lent starts, and an
+-- assignment gives an offset a depth or none.
 -- Assumes nothing.
 use mathlib.Core.Path.{_≡_}
 use mathlib.Core.Bool.{true}
@@ -18,19 +19,19 @@ use Rattle.code.specs.declared.Goal.the-variants.{Nowhere, To}
 use Rattle.code.specs.Flow.{flowOf}
 
 -- an instruction that moves on as f says stands at o
-pub record Stands (s : List ℕ) (o : ℕ) (f : Flow) : Type 0 where
-  pub is : flowOf o (drop o s) ≡ F.Op f
+pub record Stands (last : ℕ) (s : List ℕ) (o : ℕ) (f : Flow) : Type 0 where
+  pub is : flowOf last o (drop o s) ≡ F.Op f
 
 -- "instruction starts and the end": reading from 0 on comes to o
-pub data Place (s : List ℕ) : ℕ → Type 0 where
-  first : Place s 0
-  next : {o q : ℕ} {f : Flow} → Place s o → Stands s o f → o + f .size ≡ q → Place s q
+pub data Place (last : ℕ) (s : List ℕ) : ℕ → Type 0 where
+  first : Place last s 0
+  next : {o q : ℕ} {f : Flow} → Place last s o → Stands last s o f → o + f .size ≡ q → Place last s q
 
 -- "1 or 22 at the lowest offset": reading comes to a fault
-pub record Faulty (s : List ℕ) (q : Refusal) : Type 0 where
+pub record Faulty (last : ℕ) (s : List ℕ) (q : Refusal) : Type 0 where
   pub offset : ℕ
-  pub place : Place s offset
-  pub fault : flowOf offset (drop offset s) ≡ F.Refused q
+  pub place : Place last s offset
+  pub fault : flowOf last offset (drop offset s) ≡ F.Refused q
 
 -- the pair o, d is a start
 pub record Begins (st : List ℕ) (o d : ℕ) : Type 0 where
@@ -64,25 +65,27 @@ pub record Kept (a : ℕ → Option ℕ) (f : Flow) (o d : ℕ) : Type 0 where
 
 -- "Assignments give instruction starts and the end at most one depth each, 0 to 65,535; each start has its depth; for every instruction
 -- given a depth .."
-pub record Assigns (s st : List ℕ) (a : ℕ → Option ℕ) : Type 0 where
-  pub places : (o d : ℕ) → a o ≡ some d → Place s o × (d ≤ deepest)
+pub record Assigns (last : ℕ) (s st : List ℕ) (a : ℕ → Option ℕ) : Type 0 where
+  pub places : (o d : ℕ) → a o ≡ some d → Place last s o × (d ≤ deepest)
   pub starts : (o d : ℕ) → Begins st o d → a o ≡ some d
-  pub kept : (o d : ℕ) (f : Flow) → a o ≡ some d → Stands s o f → Kept a f o d
+  pub kept : (o d : ℕ) (f : Flow) → a o ≡ some d → Stands last s o f → Kept a f o d
 
 -- "the smallest assignment (part of every other)"
-pub record Smallest (s st : List ℕ) (a : ℕ → Option ℕ) : Type 0 where
-  pub assigns : Assigns s st a
-  pub least : (b : ℕ → Option ℕ) → Assigns s st b → (o d : ℕ) → a o ≡ some d → b o ≡ some d
+pub record Smallest (last : ℕ) (s st : List ℕ) (a : ℕ → Option ℕ) : Type 0 where
+  pub assigns : Assigns last s st a
+  pub least : (b : ℕ → Option ℕ) → Assigns last s st b → (o d : ℕ) → a o ≡ some d → b o ≡ some d
 
 -- no assignment exists
-abbrev pub Impossible : List ℕ → List ℕ → Type 0
-Impossible s st = (a : ℕ → Option ℕ) → Assigns s st a → ⊥
+abbrev pub Impossible : ℕ → List ℕ → List ℕ → Type 0
+Impossible last s st = (a : ℕ → Option ℕ) → Assigns last s st a → ⊥
 
 -- fall-throughs and taken jumps lead from a start to o, with the depth d there
-pub data Derived (s st : List ℕ) : ℕ → ℕ → Type 0 where
-  start : {o d : ℕ} → Begins st o d → Derived s st o d
-  fall : {o d q e : ℕ} {f : Flow} → Derived s st o d → Stands s o f → f .falls ≡ true → Leads d (f .net) e → o + f .size ≡ q → Derived s st q e
-  jump : {o d q e : ℕ} {f : Flow} → Derived s st o d → Stands s o f → f .goal ≡ To q → Leads d (f .taken) e → Derived s st q e
+pub data Derived (last : ℕ) (s st : List ℕ) : ℕ → ℕ → Type 0 where
+  start : {o d : ℕ} → Begins st o d → Derived last s st o d
+  fall : {o d q e : ℕ} {f : Flow} → Derived last s st o d → Stands last s o f → f .falls ≡ true → Leads d (f .net) e
+      → o + f .size ≡ q → Derived last s st q e
+  jump : {o d q e : ℕ} {f : Flow} → Derived last s st o d → Stands last s o f → f .goal ≡ To q → Leads d (f .taken) e
+      → Derived last s st q e
 
 -- numbers in rising order, the first at least n
 abbrev pub Rising : ℕ → List ℕ → Type 0
@@ -90,9 +93,9 @@ Rising n [] = Unit {0}
 Rising n (x ∷ xs) = (n ≤ x) × Rising (suc x) xs
 
 -- "counts the instructions that have a depth": the instruction starts with a depth, each once, are k
-pub record Counts (s : List ℕ) (a : ℕ → Option ℕ) (k : ℕ) : Type 0 where
+pub record Counts (last : ℕ) (s : List ℕ) (a : ℕ → Option ℕ) (k : ℕ) : Type 0 where
   pub starts : List ℕ
   pub rising : Rising 0 starts
-  pub each : (o : ℕ) → List·Memᴰ o starts → (f : Flow) × (d : ℕ) × Place s o × Stands s o f × (a o ≡ some d)
-  pub all : (o d : ℕ) (f : Flow) → Place s o → Stands s o f → a o ≡ some d → List·Memᴰ o starts
+  pub each : (o : ℕ) → List·Memᴰ o starts → (f : Flow) × (d : ℕ) × Place last s o × Stands last s o f × (a o ≡ some d)
+  pub all : (o d : ℕ) (f : Flow) → Place last s o → Stands last s o f → a o ≡ some d → List·Memᴰ o starts
   pub count : k ≡ length starts

@@ -63,6 +63,6 @@ flowingBy at end (Instr k o size) = F.Op (flowBy (at + 3) end k o size)
 flowingBy at end End = F.End
 flowingBy at end (Refused r) = F.Refused r
 
--- the same of u, the code from an offset on
-unfoldable pub flowOf : ℕ → List ℕ → Flowing
-flowOf at u = flowingBy at (at + length u) (decode at u)
+-- the same of u, the code from an offset on, under a table that ends with the opcode `last`
+unfoldable pub flowOf : ℕ → ℕ → List ℕ → Flowing
+flowOf last at u = flowingBy at (at + length u) (decode last at u)

@@ -1,4 +1,5 @@
 -- A code read from its start, one instruction behind the other, to its end or its first fault: document 01, the decoder.
+-- The table of opcodes is told by its last opcode, `last`.
 -- Assumes nothing.
 use mathlib.Core.List.{List}
 use Prim.Native.Nat.{ℕ, zero, suc, _+_}
@@ -21,13 +22,13 @@ counted rest at u End = Whole 0
 counted rest at u (Refused r) = Stopped 0 r
 
 -- the instructions of u, the code from an offset on, of which no more than so many are read
-unfoldable pub countFrom : ℕ → ℕ → List ℕ → Count
-countFrom zero at u = Whole 0
-countFrom (suc fuel) at u = let rest = countFrom fuel in counted rest at u (decode at u)
+unfoldable pub countFrom : ℕ → ℕ → ℕ → List ℕ → Count
+countFrom last zero at u = Whole 0
+countFrom last (suc fuel) at u = let rest = countFrom last fuel in counted rest at u (decode last at u)
 
 -- the instructions of a code; an instruction has a byte at least, so that is all of them
-unfoldable pub countOf : List ℕ → Count
-countOf code = countFrom (suc (length code)) 0 code
+unfoldable pub countOf : ℕ → List ℕ → Count
+countOf last code = countFrom last (suc (length code)) 0 code
 
 -- the count where a step is no instruction
 abbrev pub stopped : ℕ → Step → Count

@@ -2,6 +2,7 @@
 ghost use mathlib.Core.Path.{_≡_};
 ghost use Prim.Native.Nat.{_+_, _<_, _≤_};
 ghost use lib.ListN.{length, drop};
+ghost use Rattle.op.specs.Opcodes.{lastOpcode};
 ghost use Rattle.code.specs.Decode.{namesIn, decode, namesAt};
 ghost use Rattle.code.specs.Flow.{goalBy, goalOf, changeOf, flowBy, flowOf};
 use crate::Change;
@@ -21,7 +22,7 @@ use op::shapes;
 // The instruction at the front of `bytes`, which stand at `at`.
 fn first(bytes: &[u8], at: usize) -> Step
     requires { ⌜ 0 < length (now bytes) ⌝ }
-    ensures { λ r. ⌜ r ≡ decode at (now (bytes .entry)) ⌝ }
+    ensures { λ r. ⌜ r ≡ decode lastOpcode at (now (bytes .entry)) ⌝ }
 {
     let shaped = shapes::operand_shape(bytes[0]);
     let Shaped::Is(shape) = shaped else {
@@ -32,7 +33,7 @@ fn first(bytes: &[u8], at: usize) -> Step
 
 // The instruction at an offset: End at or past the code's end; refuses 1, then 22.
 pub fn step_at(code: &[u8], at: usize) -> Step
-    ensures { λ r. ⌜ r ≡ decode at (drop at (now (code .entry))) ⌝ }
+    ensures { λ r. ⌜ r ≡ decode lastOpcode at (drop at (now (code .entry))) ⌝ }
 {
     if code.len() <= at {
         return Step::End;
@@ -70,7 +71,7 @@ pub fn names_of(operand: Operand) -> usize
 // The bytes of the keyword names of the instruction at an offset, two for each: the caller's own part of the code. Empty on a fault,
 // at the end or without names.
 pub fn names_at<'a>(code: &'a [u8], at: usize) -> &'a [u8]
-    ensures { λ r. ⌜ now r ≡ namesAt (drop at (now (code .entry))) ⌝ }
+    ensures { λ r. ⌜ now r ≡ namesAt lastOpcode (drop at (now (code .entry))) ⌝ }
 {
     let step = step_at(code, at);
     let Step::Instr {
@@ -164,7 +165,7 @@ fn flow_of(opcode: u8, operand: Operand, size: usize, next: usize, end: usize) -
 // How the instruction at an offset moves on: whether it falls through, what that does to the depth, where it jumps and what that
 // does to the depth. End and refusals are the step's.
 pub fn flow_at(code: &[u8], at: usize) -> Flowing
-    ensures { λ r. ⌜ r ≡ flowOf at (drop at (now (code .entry))) ⌝ }
+    ensures { λ r. ⌜ r ≡ flowOf lastOpcode at (drop at (now (code .entry))) ⌝ }
 {
     let step = step_at(code, at);
     match step {

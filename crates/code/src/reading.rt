@@ -1,5 +1,6 @@
 // A code read from its start to its end or its first fault.
 ghost use mathlib.Core.Path.{_≡_};
+ghost use Rattle.op.specs.Opcodes.{lastOpcode};
 ghost use Rattle.code.specs.Reading.{countOf, stopped};
 use crate::Count;
 use crate::Step;
@@ -22,7 +23,7 @@ fn stop(n: usize, step: Step) -> Count
 
 // How many instructions a code has.
 pub fn count(code: &[u8]) -> Count
-    ensures { λ r. ⌜ r ≡ countOf (now (code .entry)) ⌝ }
+    ensures { λ r. ⌜ r ≡ countOf lastOpcode (now (code .entry)) ⌝ }
 {
     let mut at: usize = 0;
     let mut n: usize = 0;

@@ -3,7 +3,7 @@ ghost use mathlib.Core.Path.{_≡_};
 ghost use Prim.Native.Nat.{_+_, _<_};
 ghost use lib.ListN.{length};
 ghost use Rattle.code.specs.Bytes.{wordAt};
-ghost use Rattle.code.specs.Decode.{Front, decode};
+ghost use Rattle.code.specs.Decode.{stepIn};
 use crate::Step;
 use crate::signs;
 use op::Operand;
@@ -36,8 +36,8 @@ fn word_at(bytes: &[u8], i: usize) -> u16
 
 // None: the opcode alone.
 fn none_step(bytes: &[u8], at: usize) -> Step
-    requires { ⌜ Front Shape.None (now bytes) ⌝ }
-    ensures { λ r. ⌜ r ≡ decode at (now (bytes .entry)) ⌝ }
+    requires { ⌜ 0 < length (now bytes) ⌝ }
+    ensures { λ r. ⌜ r ≡ stepIn at Shape.None (now (bytes .entry)) ⌝ }
 {
     Step::Instr {
         opcode: bytes[0],
@@ -48,8 +48,8 @@ fn none_step(bytes: &[u8], at: usize) -> Step
 
 // U8: a byte.
 fn u8_step(bytes: &[u8], at: usize) -> Step
-    requires { ⌜ Front Shape.U8 (now bytes) ⌝ }
-    ensures { λ r. ⌜ r ≡ decode at (now (bytes .entry)) ⌝ }
+    requires { ⌜ 0 < length (now bytes) ⌝ }
+    ensures { λ r. ⌜ r ≡ stepIn at Shape.U8 (now (bytes .entry)) ⌝ }
 {
     if bytes.len() < 2 {
         return Step::Refused(Refusal::CutShort(at));
@@ -64,8 +64,8 @@ fn u8_step(bytes: &[u8], at: usize) -> Step
 
 // I8: a byte with a sign.
 fn i8_step(bytes: &[u8], at: usize) -> Step
-    requires { ⌜ Front Shape.I8 (now bytes) ⌝ }
-    ensures { λ r. ⌜ r ≡ decode at (now (bytes .entry)) ⌝ }
+    requires { ⌜ 0 < length (now bytes) ⌝ }
+    ensures { λ r. ⌜ r ≡ stepIn at Shape.I8 (now (bytes .entry)) ⌝ }
 {
     if bytes.len() < 2 {
         return Step::Refused(Refusal::CutShort(at));
@@ -80,8 +80,8 @@ fn i8_step(bytes: &[u8], at: usize) -> Step
 
 // U16: a word.
 fn u16_step(bytes: &[u8], at: usize) -> Step
-    requires { ⌜ Front Shape.U16 (now bytes) ⌝ }
-    ensures { λ r. ⌜ r ≡ decode at (now (bytes .entry)) ⌝ }
+    requires { ⌜ 0 < length (now bytes) ⌝ }
+    ensures { λ r. ⌜ r ≡ stepIn at Shape.U16 (now (bytes .entry)) ⌝ }
 {
     if bytes.len() < 3 {
         return Step::Refused(Refusal::CutShort(at));
@@ -96,8 +96,8 @@ fn u16_step(bytes: &[u8], at: usize) -> Step
 
 // Offset: a word with a sign.
 fn offset_step(bytes: &[u8], at: usize) -> Step
-    requires { ⌜ Front Shape.Offset (now bytes) ⌝ }
-    ensures { λ r. ⌜ r ≡ decode at (now (bytes .entry)) ⌝ }
+    requires { ⌜ 0 < length (now bytes) ⌝ }
+    ensures { λ r. ⌜ r ≡ stepIn at Shape.Offset (now (bytes .entry)) ⌝ }
 {
     if bytes.len() < 3 {
         return Step::Refused(Refusal::CutShort(at));
@@ -112,8 +112,8 @@ fn offset_step(bytes: &[u8], at: usize) -> Step
 
 // U8U8: two bytes.
 fn u8_u8_step(bytes: &[u8], at: usize) -> Step
-    requires { ⌜ Front Shape.U8U8 (now bytes) ⌝ }
-    ensures { λ r. ⌜ r ≡ decode at (now (bytes .entry)) ⌝ }
+    requires { ⌜ 0 < length (now bytes) ⌝ }
+    ensures { λ r. ⌜ r ≡ stepIn at Shape.U8U8 (now (bytes .entry)) ⌝ }
 {
     if bytes.len() < 3 {
         return Step::Refused(Refusal::CutShort(at));
@@ -128,8 +128,8 @@ fn u8_u8_step(bytes: &[u8], at: usize) -> Step
 
 // U16U8: a word and a byte.
 fn u16_u8_step(bytes: &[u8], at: usize) -> Step
-    requires { ⌜ Front Shape.U16U8 (now bytes) ⌝ }
-    ensures { λ r. ⌜ r ≡ decode at (now (bytes .entry)) ⌝ }
+    requires { ⌜ 0 < length (now bytes) ⌝ }
+    ensures { λ r. ⌜ r ≡ stepIn at Shape.U16U8 (now (bytes .entry)) ⌝ }
 {
     if bytes.len() < 4 {
         return Step::Refused(Refusal::CutShort(at));
@@ -144,8 +144,8 @@ fn u16_u8_step(bytes: &[u8], at: usize) -> Step
 
 // U16U16: two words.
 fn u16_u16_step(bytes: &[u8], at: usize) -> Step
-    requires { ⌜ Front Shape.U16U16 (now bytes) ⌝ }
-    ensures { λ r. ⌜ r ≡ decode at (now (bytes .entry)) ⌝ }
+    requires { ⌜ 0 < length (now bytes) ⌝ }
+    ensures { λ r. ⌜ r ≡ stepIn at Shape.U16U16 (now (bytes .entry)) ⌝ }
 {
     if bytes.len() < 5 {
         return Step::Refused(Refusal::CutShort(at));
@@ -160,8 +160,8 @@ fn u16_u16_step(bytes: &[u8], at: usize) -> Step
 
 // U16U8U8: a word and two bytes.
 fn u16_u8_u8_step(bytes: &[u8], at: usize) -> Step
-    requires { ⌜ Front Shape.U16U8U8 (now bytes) ⌝ }
-    ensures { λ r. ⌜ r ≡ decode at (now (bytes .entry)) ⌝ }
+    requires { ⌜ 0 < length (now bytes) ⌝ }
+    ensures { λ r. ⌜ r ≡ stepIn at Shape.U16U8U8 (now (bytes .entry)) ⌝ }
 {
     if bytes.len() < 5 {
         return Step::Refused(Refusal::CutShort(at));
@@ -176,8 +176,8 @@ fn u16_u8_u8_step(bytes: &[u8], at: usize) -> Step
 
 // CallKw: positional count, n, names.
 fn call_kw_step(bytes: &[u8], at: usize) -> Step
-    requires { ⌜ Front Shape.CallKw (now bytes) ⌝ }
-    ensures { λ r. ⌜ r ≡ decode at (now (bytes .entry)) ⌝ }
+    requires { ⌜ 0 < length (now bytes) ⌝ }
+    ensures { λ r. ⌜ r ≡ stepIn at Shape.CallKw (now (bytes .entry)) ⌝ }
 {
     if bytes.len() < 3 {
         return Step::Refused(Refusal::CutShort(at));
@@ -200,8 +200,8 @@ fn call_kw_step(bytes: &[u8], at: usize) -> Step
 
 // CallAttrKw: attribute, positional count, n, names.
 fn call_attr_kw_step(bytes: &[u8], at: usize) -> Step
-    requires { ⌜ Front Shape.CallAttrKw (now bytes) ⌝ }
-    ensures { λ r. ⌜ r ≡ decode at (now (bytes .entry)) ⌝ }
+    requires { ⌜ 0 < length (now bytes) ⌝ }
+    ensures { λ r. ⌜ r ≡ stepIn at Shape.CallAttrKw (now (bytes .entry)) ⌝ }
 {
     if bytes.len() < 5 {
         return Step::Refused(Refusal::CutShort(at));
@@ -225,8 +225,8 @@ fn call_attr_kw_step(bytes: &[u8], at: usize) -> Step
 
 // U16U16U8: two words and a byte.
 fn u16_u16_u8_step(bytes: &[u8], at: usize) -> Step
-    requires { ⌜ Front Shape.U16U16U8 (now bytes) ⌝ }
-    ensures { λ r. ⌜ r ≡ decode at (now (bytes .entry)) ⌝ }
+    requires { ⌜ 0 < length (now bytes) ⌝ }
+    ensures { λ r. ⌜ r ≡ stepIn at Shape.U16U16U8 (now (bytes .entry)) ⌝ }
 {
     if bytes.len() < 6 {
         return Step::Refused(Refusal::CutShort(at));
@@ -241,8 +241,8 @@ fn u16_u16_u8_step(bytes: &[u8], at: usize) -> Step
 
 // The instruction of a shape at the front of `bytes`, which stand at `at`: 22 where it is cut short.
 pub fn shaped_step(bytes: &[u8], at: usize, shape: Shape) -> Step
-    requires { ⌜ Front shape (now bytes) ⌝ }
-    ensures { λ r. ⌜ r ≡ decode at (now (bytes .entry)) ⌝ }
+    requires { ⌜ 0 < length (now bytes) ⌝ }
+    ensures { λ r. ⌜ r ≡ stepIn at shape (now (bytes .entry)) ⌝ }
 {
     match shape {
         Shape::None => none_step(bytes, at),

@@ -10,6 +10,7 @@ use native.Mathlib.Decide.{decLe}
 use native.Mathlib.Omega.{arith}
 use lib.ListN.{length, take, drop, getD, List·getD-append}
 use borrow.Author.Tests.{le-leb}
+use Rattle.op.specs.Opcodes.{lastOpcode}
 use Rattle.code.specs.Depths.{Smallest, Derived}
 use Rattle.code.proofs.Assigning.{smallest-agree}
 use Rattle.code.proofs.Counting.{counts-one}
@@ -38,7 +39,8 @@ cell-of c o none e l = elim (decLe (cell c o) 65535) [
 ]
 
 module _ (b : Book isa) (g : Good isa laws b) (closed : (r : Row isa) → Mem r (b .rows) → Closed isa laws (r .offset) (r .what)) where
-  checked : b .len ≤ codeLimit → (d d′ : List ℕ) (r : Checked) → b .len < length d → Promise (bytesOf isa (b .rows)) (cells (b .starts)) d d′ r
+  checked : b .len ≤ codeLimit → (d d′ : List ℕ) (r : Checked) → b .len < length d
+      → Promise lastOpcode (bytesOf isa (b .rows)) (cells (b .starts)) d d′ r
       → (r ≡ C.Accepted (length (b .rows))) × ((o : ℕ) → o ≤ b .len → cell d′ o ≡ cellOf (depths b g closed o))
   checked short d d′ r room P =
       let z : length (bytesOf isa (b .rows)) ≡ b .len = code-length (b .rows) (b .len) (g .chain) closed in
@@ -53,13 +55,13 @@ module _ (b : Book isa) (g : Good isa laws b) (closed : (r : Row isa) → Mem r 
 
   -- the same of any names for the bytes, the starts' cells and the length
   module _ (s st : List ℕ) (n : ℕ) (es : s ≡ bytesOf isa (b .rows)) (et : st ≡ cells (b .starts)) (en : n ≡ b .len) where
-    pub smallest-at : Smallest s st (λ o. depthAt isa (b .rows) n (b .cur) o)
+    pub smallest-at : Smallest lastOpcode s st (λ o. depthAt isa (b .rows) n (b .cur) o)
     smallest-at = rw (es, et, en) (least b g closed)
 
-    pub derived-at : (o d : ℕ) → (depthAt isa (b .rows) n (b .cur) o ≡ some d) ↔ Derived s st o d
+    pub derived-at : (o d : ℕ) → (depthAt isa (b .rows) n (b .cur) o ≡ some d) ↔ Derived lastOpcode s st o d
     derived-at o d = rw (es, et, en) (derives b g closed o d)
 
-    pub checked-at : b .len ≤ codeLimit → (d d′ : List ℕ) (r : Checked) → n < length d → Promise s st d d′ r
+    pub checked-at : b .len ≤ codeLimit → (d d′ : List ℕ) (r : Checked) → n < length d → Promise lastOpcode s st d d′ r
         → (r ≡ C.Accepted (length (b .rows))) × ((o : ℕ) → o ≤ n → cell d′ o ≡ cellOf (depthAt isa (b .rows) n (b .cur) o))
     checked-at short = rw (es, et, en) (checked short)
 
@@ -73,7 +75,7 @@ built-sound b s st c l h =
 
 pub built-promise : (b : Builder) (s st d d′ : List ℕ) (r : Checked) → b .core .code ≤ length s → b .core .code ≤ codeLimit
     → b .starts * startCells ≤ length st → BuiltPromise b s st d d′ r
-    → Promise (take (b .core .code) s) (take (b .starts * startCells) st) d d′ r
+    → Promise lastOpcode (take (b .core .code) s) (take (b .starts * startCells) st) d d′ r
 unfolding BuiltPromise
 built-promise b s st d d′ r c l h (stops q p a) =
     let t = built-sound b s st c l h in

@@ -9,6 +9,7 @@ use Prim.Native.Nat.{ℕ, _+_, _≤_}
 use native.Mathlib.Omega.{arith}
 use lib.IntN.{subℕ}
 use lib.ListN.{length, length-map}
+use Rattle.op.specs.Opcodes.{lastOpcode}
 use Rattle.op.specs.Depths.{takenDepthOf, lowFalling, lowTaken}
 use Rattle.op.specs.Effects.{effectOf, takenOf, deadMaker}
 use Rattle.code.specs.Depths.{Stands, Place, Falls, Jumps, Kept, Assigns, Smallest, Derived, start, fall, jump, Counts}
@@ -43,7 +44,8 @@ module _ (b : Book isa) (g : Good isa laws b) (closed : (r : Row isa) → Mem r 
   abbrev pub depths : ℕ → Option ℕ
   depths o = depthAt isa (b .rows) (b .len) (b .cur) o
 
-  stands : (r : Row isa) → Mem r (b .rows) → Stands code (r .offset) (flowAt (length code) (r .offset) (r .what))
+  stands : (r : Row isa) → Mem r (b .rows)
+      → Stands lastOpcode code (r .offset) (flowAt (length code) (r .offset) (r .what))
   stands r m = row-stands (b .rows) (b .len) (g .chain) closed r m
 
   -- the depths are those of the rows and the live end
@@ -63,9 +65,9 @@ module _ (b : Book isa) (g : Good isa laws b) (closed : (r : Row isa) → Mem r 
   came o d (row r m e f) = rw (← e, ← f) (g .each r m .came, g .each r m .small)
   came o d (tip e f) = rw (← e) (g .tips d f)
 
-  place : (o d : ℕ) → Dep isa b o d → Place code o
-  place o d (row r m e f) = subst (Place code) e (row-place (b .rows) (b .len) (g .chain) closed r m)
-  place o d (tip e f) = subst (Place code) e (end-place (b .rows) (b .len) (g .chain) closed)
+  place : (o d : ℕ) → Dep isa b o d → Place lastOpcode code o
+  place o d (row r m e f) = subst (Place lastOpcode code) e (row-place (b .rows) (b .len) (g .chain) closed r m)
+  place o d (tip e f) = subst (Place lastOpcode code) e (end-place (b .rows) (b .len) (g .chain) closed)
 
   -- a jump of a row goes to its place
 
@@ -74,19 +76,21 @@ module _ (b : Book isa) (g : Good isa laws b) (closed : (r : Row isa) → Mem r 
 
   -- derivations along rows are derivations along the bytes
 
-  down : {o d : ℕ} → Der isa b o d → Derived code (cells (b .starts)) o d
+  down : {o d : ℕ} → Der isa b o d → Derived lastOpcode code (cells (b .starts)) o d
   down {o} {d} (begin m) = start (mem-begins (b .starts) o d m)
   down {o} {d} (K.fall r m h s n q) =
       fall (down h) (stands r m) (rw (said-stops (r .offset) (r .what), s) refl)
       (leads-of lowFalling (r .depth) d (effectOf (said (r .offset) (r .what) .opcode) (said (r .offset) (r .what) .operand)) (said-net (r .offset) (r .what) (r .depth) d n)) q
   down {o} {d} (hop r j m h w t) = leap-down (r .offset) (r .depth) (r .what) (stands r m) (down h) (g .each r m .lands j o d w t) w t
     where
-      leap-down : (p e : ℕ) (x : What isa) → Stands code p (flowAt (length code) p x) → Derived code (cells (b .starts)) p e → Dep isa b o d → x ≡ leap j (to o) → isa .taken j e ≡ some d → Derived code (cells (b .starts)) o d
+      leap-down : (p e : ℕ) (x : What isa) → Stands lastOpcode code p (flowAt (length code) p x)
+          → Derived lastOpcode code (cells (b .starts)) p e → Dep isa b o d → x ≡ leap j (to o)
+          → isa .taken j e ≡ some d → Derived lastOpcode code (cells (b .starts)) o d
       leap-down p e x st D at ex k =
-          let st′ : Stands code p (flowAt (length code) p (leap j (to o))) = rw ex at st in
+          let st′ : Stands lastOpcode code p (flowAt (length code) p (leap j (to o))) = rw ex at st in
           jump D st′ (goal-is p o d at) (leads-of lowTaken e d (takenOf j) (in-range (takenDepthOf e j) d k))
 
-  depths-derived : (o d : ℕ) → depths o ≡ some d → Derived code (cells (b .starts)) o d
+  depths-derived : (o d : ℕ) → depths o ≡ some d → Derived lastOpcode code (cells (b .starts)) o d
   depths-derived o d h = down (came o d (sound o d h) .0)
 
   -- a row is respected
@@ -123,13 +127,13 @@ module _ (b : Book isa) (g : Good isa laws b) (closed : (r : Row isa) → Mem r 
   row-kept : (r : Row isa) → Mem r (b .rows) → Kept depths (flowAt (length code) (r .offset) (r .what)) (r .offset) (r .depth)
   row-kept r m = record { falls = row-falls (r .offset) (r .depth) (r .what) m; jumps = row-jumps (r .offset) (r .depth) (r .what) m (closed r m) }
 
-  kept : (o d : ℕ) (f : Flow) → Dep isa b o d → Stands code o f → Kept depths f o d
+  kept : (o d : ℕ) (f : Flow) → Dep isa b o d → Stands lastOpcode code o f → Kept depths f o d
   kept o d f (row r m e q) st =
-      let same : f ≡ flowAt (length code) (r .offset) (r .what) = stands-one (subst (λ (x : ℕ). Stands code x f) (sym e) st) (stands r m) in
+      let same : f ≡ flowAt (length code) (r .offset) (r .what) = stands-one (subst (λ (x : ℕ). Stands lastOpcode code x f) (sym e) st) (stands r m) in
       rw (← e, ← q, same) (row-kept r m)
   kept o d f (tip e q) st = absurd (end-stands (b .rows) (b .len) (g .chain) closed e st)
 
-  pub assigned : Assigns code (cells (b .starts)) depths
+  pub assigned : Assigns lastOpcode code (cells (b .starts)) depths
   assigned = record {
     places = λ o d h. (place o d (sound o d h), came o d (sound o d h) .1);
     starts = λ o d h. complete o d (g .begins o d (begins-mem (b .starts) o d h));
@@ -137,14 +141,15 @@ module _ (b : Book isa) (g : Good isa laws b) (closed : (r : Row isa) → Mem r 
   }
 
   -- the depths are the smallest assignment, and what paths from the starts lead to
-  pub least : Smallest code (cells (b .starts)) depths
+  pub least : Smallest lastOpcode code (cells (b .starts)) depths
   least = smallest assigned depths-derived
 
-  pub derives : (o d : ℕ) → (depths o ≡ some d → Derived code (cells (b .starts)) o d) × (Derived code (cells (b .starts)) o d → depths o ≡ some d)
+  pub derives : (o d : ℕ)
+      → (depths o ≡ some d → Derived lastOpcode code (cells (b .starts)) o d) × (Derived lastOpcode code (cells (b .starts)) o d → depths o ≡ some d)
   derives o d = (depths-derived o d, λ D. derived-in assigned D)
 
   -- the start list can be
-  pub listed : Listed code (cells (b .starts))
+  pub listed : Listed lastOpcode code (cells (b .starts))
   listed = record {
     even = omega (arith, cells-length (b .starts));
     good = λ k l.
@@ -153,7 +158,7 @@ module _ (b : Book isa) (g : Good isa laws b) (closed : (r : Row isa) → Mem r 
   }
 
   -- the rows are counted
-  pub counted : Counts code depths (length (b .rows))
+  pub counted : Counts lastOpcode code depths (length (b .rows))
   counted = record {
     starts = map (λ (r : Row isa). r .offset) (b .rows);
     rising = rising (b .rows) (b .len) (g .chain) closed;
@@ -162,7 +167,8 @@ module _ (b : Book isa) (g : Good isa laws b) (closed : (r : Row isa) → Mem r 
     count = sym (length-map (b .rows) (λ (r : Row isa). r .offset));
   }
     where
-      each : (o : ℕ) → Mem o (map (λ (r : Row isa). r .offset) (b .rows)) → (f : Flow) × (d : ℕ) × Place code o × Stands code o f × (depths o ≡ some d)
+      each : (o : ℕ) → Mem o (map (λ (r : Row isa). r .offset) (b .rows))
+          → (f : Flow) × (d : ℕ) × Place lastOpcode code o × Stands lastOpcode code o f × (depths o ≡ some d)
       each o m =
           let q = mem-map-inv (λ (r : Row isa). r .offset) (b .rows) m in
           rw (q .2) (
@@ -173,6 +179,7 @@ module _ (b : Book isa) (g : Good isa laws b) (closed : (r : Row isa) → Mem r 
             complete (q .0 .offset) (q .0 .depth) (row (q .0) (q .1) refl refl),
           )
 
-      all : (o d : ℕ) (f : Flow) → Stands code o f → Dep isa b o d → Mem o (map (λ (r : Row isa). r .offset) (b .rows))
+      all : (o d : ℕ) (f : Flow) → Stands lastOpcode code o f → Dep isa b o d
+          → Mem o (map (λ (r : Row isa). r .offset) (b .rows))
       all o d f st (row r m e q) = rw (← e) (mem-map (λ (r : Row isa). r .offset) m)
       all o d f st (tip e q) = absurd (end-stands (b .rows) (b .len) (g .chain) closed e st)

@@ -14,7 +14,8 @@ use mir.Syntax.{w16}
 use borrow.Author.Tests.{leb-true}
 use Rattle.op.specs.Choice.{pick}
 use Rattle.op.specs.Depths.{deepest, landing, afterOf, takenDepthOf, lowFalling, lowTaken}
-use Rattle.op.specs.Shapes.{shapeOf}
+use Rattle.op.specs.Opcodes.{lastOpcode}
+use Rattle.op.specs.Shapes.{shapeOf, operandShape}
 use Rattle.op.specs.Effects.{effectOf, takenOf}
 use Rattle.op.specs.declared.After.{After}
 use Rattle.op.specs.declared.After.the-variants as A
@@ -31,6 +32,7 @@ use Rattle.code.specs.Depths.{Leads}
 use Rattle.code.specs.Encode.{encode, Formed}
 use Rattle.code.specs.Flow.{goalOf, changeOf}
 use Rattle.code.specs.declared.Goal.the-variants.{Nowhere}
+use Rattle.code.proofs.Decoding.{shape-known}
 use Rattle.code.proofs.Inverse.{decode-encode, names-encode, words-names}
 use Rattle.code.proofs.Twos.{signed-small, unsigned-signed}
 use Rattle.builder.specs.Tables.{jumpSize}
@@ -38,7 +40,7 @@ use Rattle.builder.specs.Marks.{near, bits}
 use Rattle.builder.proofs.Plans.{after-shape}
 use Rattle.builder.proofs.Displacing.{displaced, bits-small}
 use Rattle.demand.specs.Isa.{end, ins}
-use Rattle.demand.specs.Machine.{Instruction, instruction, inRange, isa}
+use Rattle.demand.specs.Machine.{Instruction, instruction, inRange, isaUpTo, isa}
 use Rattle.demand.proofs.Laws.{Laws}
 
 -- depths
@@ -90,13 +92,22 @@ pub record Valid (i : Instruction) : Type 0 where
 abbrev pub Jumps : ℕ → Type 0
 Jumps k = shapeOf k ≡ P.Is S.Offset
 
--- what is well formed reads back
+-- what is well formed reads back under each table that has its opcode
+pub dec-under : (last : ℕ) (i : Instruction) → i .opcode ≤ last → Formed (i .opcode) (i .operand) (i .names)
+    → (r : List ℕ)
+    → isaUpTo last .dec (isaUpTo last .bytes i ++ r) ≡ ins i (length (isaUpTo last .bytes i))
+dec-under last i l f r =
+    let d = decode-encode last (i .opcode) (i .operand) (i .names) r l f 0 in
+    let n = names-encode last (i .opcode) (i .operand) (i .names) r l f in
+    rw (d, n, words-names (i .names))
+
+-- document 01's own has the opcode of all that is well formed
+pub formed-known : {k : ℕ} {o : Operand} {ns : List ℕ} → Formed k o ns → k ≤ lastOpcode
+formed-known {k} {o} f = shape-known k (operandShape o) (f .shape)
+
 pub dec-formed : (i : Instruction) → Formed (i .opcode) (i .operand) (i .names) → (r : List ℕ)
     → isa .dec (isa .bytes i ++ r) ≡ ins i (length (isa .bytes i))
-dec-formed i f r =
-    let d = decode-encode (i .opcode) (i .operand) (i .names) r f 0 in
-    let n = names-encode (i .opcode) (i .operand) (i .names) r f in
-    rw (d, n, words-names (i .names))
+dec-formed i f r = dec-under lastOpcode i (formed-known f) f r
 
 -- a jump's displacement
 

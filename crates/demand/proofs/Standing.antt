@@ -9,6 +9,7 @@ use native.Mathlib.Omega.{arith}
 use lib.IntN.{pos}
 use lib.ListN.{length, drop, length-append}
 use lib.Seq.{drop-at}
+use Rattle.op.specs.Opcodes.{lastOpcode}
 use Rattle.op.specs.Depths.{afterOf}
 use Rattle.op.specs.Effects.{deadMaker}
 use Rattle.op.specs.declared.After.the-variants as A
@@ -27,7 +28,7 @@ use Rattle.demand.specs.Machine.{Instruction, isa}
 use Rattle.demand.specs.History.{waits, to, What, one, leap, Row, size, final}
 use Rattle.demand.proofs.Book.{net, stops, Chain}
 use Rattle.demand.proofs.Bytes.{bytesAt, bytesOf, length-bytes, bytes-length, size-some, Closed}
-use Rattle.demand.proofs.Machining.{in-range, jump-net, jump-bytes, jump-formed, laws}
+use Rattle.demand.proofs.Machining.{formed-known, in-range, jump-net, jump-bytes, jump-formed, laws}
 
 -- what a row says
 
@@ -58,15 +59,17 @@ said-stops o (leap j (to t)) = refl
 abbrev pub flowAt : ℕ → ℕ → What isa → Flow
 flowAt n o w = flowBy (o + size isa w) n (said o w .opcode) (said o w .operand) (size isa w)
 
-decode-row : (o : ℕ) (w : What isa) → Closed isa laws o w → (rest : List ℕ) → decode o (bytesAt isa o w ++ rest) ≡ Instr (said o w .opcode) (said o w .operand) (size isa w)
+decode-row : (o : ℕ) (w : What isa) → Closed isa laws o w → (rest : List ℕ)
+    → decode lastOpcode o (bytesAt isa o w ++ rest) ≡ Instr (said o w .opcode) (said o w .operand) (size isa w)
 decode-row o w v rest =
     let b = said-bytes o w v in
-    let d = decode-encode (said o w .opcode) (said o w .operand) (said o w .names) rest (said-formed o w v) o in
-    ap (λ (l : List ℕ). decode o (l ++ rest)) (sym b) ∙ d ∙ ap (Instr (said o w .opcode) (said o w .operand)) (ap length b ∙ length-bytes isa o w)
+    let d = decode-encode lastOpcode (said o w .opcode) (said o w .operand) (said o w .names) rest (formed-known (said-formed o w v)) (said-formed o w v) o in
+    ap (λ (l : List ℕ). decode lastOpcode o (l ++ rest)) (sym b) ∙ d ∙ ap (Instr (said o w .opcode) (said o w .operand)) (ap length b ∙ length-bytes isa o w)
 
-pub stands-by : (s : List ℕ) (o : ℕ) (w : What isa) (rest : List ℕ) → Closed isa laws o w → drop o s ≡ bytesAt isa o w ++ rest → Stands s o (flowAt (length s) o w)
+pub stands-by : (s : List ℕ) (o : ℕ) (w : What isa) (rest : List ℕ) → Closed isa laws o w
+    → drop o s ≡ bytesAt isa o w ++ rest → Stands lastOpcode s o (flowAt (length s) o w)
 stands-by s o w rest v e = record {
-  is = sym (flow-op o s (said o w .opcode) (said o w .operand) (size isa w) (ap (decode o) e ∙ decode-row o w v rest));
+  is = sym (flow-op lastOpcode o s (said o w .opcode) (said o w .operand) (size isa w) (ap (decode lastOpcode o) e ∙ decode-row o w v rest));
 }
 
 -- a row's bytes stand at its offset
@@ -103,33 +106,37 @@ module _ (rows : List (Row isa)) (n : ℕ) (chain : Chain isa 0 rows n) (closed 
   pub code-length : length code ≡ n
   code-length = omega (arith, bytes-length isa 0 n rows chain)
 
-  pub row-stands : (r : Row isa) → Mem r rows → Stands code (r .offset) (flowAt (length code) (r .offset) (r .what))
+  pub row-stands : (r : Row isa) → Mem r rows
+      → Stands lastOpcode code (r .offset) (flowAt (length code) (r .offset) (r .what))
   row-stands r m = let k = at-row 0 n [] rows r refl chain m in stands-by code (r .offset) (r .what) (k .0) (closed r m) (k .1)
 
   -- nothing stands at the end
-  pub end-stands : {o : ℕ} {f : Flow} → n ≡ o → Stands code o f → ⊥
+  pub end-stands : {o : ℕ} {f : Flow} → n ≡ o → Stands lastOpcode code o f → ⊥
   end-stands {o} {f} e h = let z = stands-size h in omega (arith, z .0, z .1, code-length)
 
   -- places are the rows' offsets and the end
 
-  places : (o : ℕ) (rs : List (Row isa)) → Chain isa o rs n → ((r : Row isa) → Mem r rs → Mem r rows) → Place code o → ((r : Row isa) → Mem r rs → Place code (r .offset)) × Place code n
-  places o [] h sub p = ((λ r m. absurd (List·Memᴰ·not-nil m)), subst (Place code) h p)
+  places : (o : ℕ) (rs : List (Row isa)) → Chain isa o rs n → ((r : Row isa) → Mem r rs → Mem r rows)
+      → Place lastOpcode code o
+      → ((r : Row isa) → Mem r rs → Place lastOpcode code (r .offset)) × Place lastOpcode code n
+  places o [] h sub p = ((λ r m. absurd (List·Memᴰ·not-nil m)), subst (Place lastOpcode code) h p)
   places o (x ∷ rs) h sub p =
-      let px : Place code (x .offset) = subst (Place code) (sym (h .0)) p in
+      let px : Place lastOpcode code (x .offset) = subst (Place lastOpcode code) (sym (h .0)) p in
       let q = places (o + size isa (x .what)) rs (h .1) (λ r m. sub r (mtail m)) (next px (row-stands x (sub x (mhead refl))) (ap (λ (i : ℕ). i + size isa (x .what)) (h .0))) in
       (here px (q .0), q .1)
     where
-      here : Place code (x .offset) → ((r : Row isa) → Mem r rs → Place code (r .offset)) → (r : Row isa) → Mem r (x ∷ rs) → Place code (r .offset)
-      here px f r (mhead e) = subst (λ (y : Row isa). Place code (y .offset)) (sym e) px
+      here : Place lastOpcode code (x .offset) → ((r : Row isa) → Mem r rs → Place lastOpcode code (r .offset))
+          → (r : Row isa) → Mem r (x ∷ rs) → Place lastOpcode code (r .offset)
+      here px f r (mhead e) = subst (λ (y : Row isa). Place lastOpcode code (y .offset)) (sym e) px
       here px f r (mtail m) = f r m
 
-  pub row-place : (r : Row isa) → Mem r rows → Place code (r .offset)
+  pub row-place : (r : Row isa) → Mem r rows → Place lastOpcode code (r .offset)
   row-place r m = places 0 rows chain (λ q k. k) first .0 r m
 
-  pub end-place : Place code n
+  pub end-place : Place lastOpcode code n
   end-place = places 0 rows chain (λ q k. k) first .1
 
-  pub place-row : {o : ℕ} → Place code o → ((r : Row isa) × Mem r rows × (r .offset ≡ o)) ⊎ (n ≡ o)
+  pub place-row : {o : ℕ} → Place lastOpcode code o → ((r : Row isa) × Mem r rows × (r .offset ≡ o)) ⊎ (n ≡ o)
   place-row first = begin rows chain (λ r m. m)
     where
       begin : (rs : List (Row isa)) → Chain isa 0 rs n → ((r : Row isa) → Mem r rs → Mem r rows) → ((r : Row isa) × Mem r rows × (r .offset ≡ 0)) ⊎ (n ≡ 0)
@@ -144,22 +151,22 @@ module _ (rows : List (Row isa)) (n : ℕ) (chain : Chain isa 0 rows n) (closed 
 
       go : ((r : Row isa) × Mem r rows × (r .offset ≡ p)) ⊎ (n ≡ p) → ((r : Row isa) × Mem r rows × (r .offset ≡ q)) ⊎ (n ≡ q)
       go (inl t) =
-          let same = stands-one st (subst (λ (x : ℕ). Stands code x (flowAt (length code) (t .0 .offset) (t .0 .what))) (t .2) (row-stands (t .0) (t .1))) in
+          let same = stands-one st (subst (λ (x : ℕ). Stands lastOpcode code x (flowAt (length code) (t .0 .offset) (t .0 .what))) (t .2) (row-stands (t .0) (t .1))) in
           on (t .0) (t .2) (ap (λ (y : Flow). y .size) same) (behind-row 0 n rows (t .0) chain (t .1))
       go (inr t) = absurd (end-stands t st)
 
   -- reading meets no fault
 
-  end-flow : flowOf n (drop n code) ≡ F.End
+  end-flow : flowOf lastOpcode n (drop n code) ≡ F.End
   unfolding flowOf decode
   end-flow = let e : drop n code ≡ [] = ap (drop n) (sym (append-nil code)) ∙ drop-at code [] n code-length in rw e refl
 
-  pub whole : (q : Refusal) → Faulty code q → ⊥
+  pub whole : (q : Refusal) → Faulty lastOpcode code q → ⊥
   whole q a = go (place-row (a .place))
     where
       go : ((r : Row isa) × Mem r rows × (r .offset ≡ a .offset)) ⊎ (n ≡ a .offset) → ⊥
-      go (inl t) = stands-no-fault (subst (λ (x : ℕ). Stands code x (flowAt (length code) (t .0 .offset) (t .0 .what))) (t .2) (row-stands (t .0) (t .1))) (a .fault)
-      go (inr e) = end-no-fault code n end-flow (rw (← e) at (a .fault))
+      go (inl t) = stands-no-fault (subst (λ (x : ℕ). Stands lastOpcode code x (flowAt (length code) (t .0 .offset) (t .0 .what))) (t .2) (row-stands (t .0) (t .1))) (a .fault)
+      go (inr e) = end-no-fault lastOpcode code n end-flow (rw (← e) at (a .fault))
 
   -- the rows' offsets rise
   rising-from : (o : ℕ) (rs : List (Row isa)) → Chain isa o rs n → Rising o (map (λ (r : Row isa). r .offset) rs)

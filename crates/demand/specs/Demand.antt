@@ -10,6 +10,7 @@ use mathlib.Core.Option.{Option, some, none}
 use Prim.Native.Nat.{ℕ, _*_, _≤_, _<_}
 use contract.Lifetimes.{Lfts}
 use lib.ListN.{length, take}
+use Rattle.op.specs.Opcodes.{lastOpcode}
 use Rattle.code.specs.Depths.{Smallest, Derived}
 use Rattle.builder.specs.Tables.{startCells}
 use Rattle.builder.specs.declared.Answer.the-variants.{Accepted}
@@ -85,8 +86,8 @@ pub record Demand (w w′ : World) (h : History) : Type 0 where
   -- "one at each instruction": the depth that the builder had before it
   pub before : (r : Row isa) → List·Memᴰ r (h .rows) → depths w′ h (r .offset) ≡ some (r .depth)
   -- "the depths derived from those bytes and the region starts alone": the smallest assignment, and just what paths from the starts lead to
-  pub smallest : Smallest (finished w′) (regionStarts w′) (depths w′ h)
-  pub derived : (o d : ℕ) → (depths w′ h o ≡ some d) ↔ Derived (finished w′) (regionStarts w′) o d
+  pub smallest : Smallest lastOpcode (finished w′) (regionStarts w′) (depths w′ h)
+  pub derived : (o d : ℕ) → (depths w′ h o ≡ some d) ↔ Derived lastOpcode (finished w′) (regionStarts w′) o d
   -- so `check` of those bytes and starts accepts where its cells have room, by its contract
   pub checks : (κs : Lfts 3) (code : Holding (finished w′)) (starts : Holding (regionStarts w′)) (entry exit : Slice) (r : Checked)
       → check-says κs (code .slice, (starts .slice, (entry, tt))) r (code .slice, (starts .slice, (exit, tt)))

@@ -1,4 +1,5 @@
--- The instruction set of document 01: bytes and decoding are those of `code`, shapes, effects and dead-makers those of `op`.
+-- The instruction set of document 01: bytes and decoding are those of `code`, shapes, effects and dead-makers those of
+-- `op`. Its table of opcodes is a parameter, told by its last opcode.
 -- Assumes nothing.
 use mathlib.Core.List.{List, []}
 use mathlib.Core.Option.{Option, some, none}
@@ -6,6 +7,7 @@ use Prim.Native.Nat.{ℕ}
 use lib.IntN.{pos}
 use Rattle.op.specs.Depths.{afterOf, takenDepthOf}
 use Rattle.op.specs.Effects.{deadMaker}
+use Rattle.op.specs.Opcodes.{lastOpcode}
 use Rattle.op.specs.declared.After.{After}
 use Rattle.op.specs.declared.After.the-variants as A
 use Rattle.op.specs.declared.Operand.{Operand}
@@ -31,15 +33,15 @@ abbrev pub inRange : After → Option ℕ
 inRange (A.Depth d) = some d
 inRange (A.Refused r) = none
 
--- the decoder's step with the names that stand in the bytes
-abbrev pub stepBy : List ℕ → S.Step → Step Instruction
-stepBy u (C.Instr k o size) = ins (instruction k o (wordsIn (namesAt u))) size
-stepBy u C.End = end
-stepBy u (C.Refused r) = bad
+-- the decoder's step with the names that stand in the bytes, under a table that ends with the opcode `last`
+abbrev pub stepBy : ℕ → List ℕ → S.Step → Step Instruction
+stepBy last u (C.Instr k o size) = ins (instruction k o (wordsIn (namesAt last u))) size
+stepBy last u C.End = end
+stepBy last u (C.Refused r) = bad
 
 -- a jump's net effect is that of any displacement; the offset that `decode` is told only names a fault's place
-abbrev pub isa : Isa
-isa = record {
+abbrev pub isaUpTo : ℕ → Isa
+isaUpTo last = record {
   Plain = Instruction;
   Jump = ℕ;
   Ins = Instruction;
@@ -52,5 +54,9 @@ isa = record {
   taken = λ k d. inRange (takenDepthOf d k);
   stops = λ i. deadMaker (i .opcode);
   jstops = deadMaker;
-  dec = λ u. stepBy u (decode 0 u);
+  dec = λ u. stepBy last u (decode last 0 u);
 }
+
+-- the instruction set of document 01's own table
+abbrev pub isa : Isa
+isa = isaUpTo lastOpcode

@@ -8,7 +8,7 @@ use Rattle.op.specs.Effects.{effectBy, effectOf, takenOf, deadMaker}
 use Rattle.op.specs.Opcodes.{table, known, rowOf}
 use Rattle.op.specs.Shapes.{shapeOf, sizeOf}
 use Rattle.code.specs.Bytes.{signed}
-use Rattle.code.specs.Decode.{operandIn, decode}
+use Rattle.code.specs.Decode.{operandIn, stepIn, shapeUpTo, decode}
 use Rattle.code.specs.Encode.{encode}
 use Rattle.code.specs.Entries.{findFrom, tableOf}
 use Rattle.code.specs.Flow.{goalBy, flowOf}
@@ -27,9 +27,9 @@ use Rattle.checker.proofs.Certificate.{certificate, must-accept, must-refuse}
 use Rattle.examples.specs.Table.{Examples, code-a, code-k, from-zero}
 
 pub hold : Examples
-unfolding landing effectBy effectOf takenOf deadMaker table known rowOf shapeOf sizeOf signed operandIn decode encode findFrom tableOf goalBy flowOf coversOf firstCovering handlerOf first put soundOf behind emittingOf enterOf planOf emitCore emitNamed markOf markIn fits markable near bits jumpPlanOf emitJumpOf toPlanOf jumpToCore emitJumpToOf markPlanOf patchPlanOf patchJumpOf addConstOf held certificate
+unfolding landing effectBy effectOf takenOf deadMaker table known rowOf shapeOf sizeOf signed operandIn decode stepIn shapeUpTo encode findFrom tableOf goalBy flowOf coversOf firstCovering handlerOf first put soundOf behind emittingOf enterOf planOf emitCore emitNamed markOf markIn fits markable near bits jumpPlanOf emitJumpOf toPlanOf jumpToCore emitJumpToOf markPlanOf patchPlanOf patchJumpOf addConstOf held certificate
 hold = record {
-  a = λ d d′ r room P. must-accept code-a from-zero (0 ∷ 1 ∷ 65536 ∷ 65536 ∷ 0 ∷ 65536 ∷ 1 ∷ 0 ∷ 1 ∷ 65536 ∷ []) 6 tt (omega arith) d d′ r room P;
+  a = λ d d′ r room P. must-accept _ code-a from-zero (0 ∷ 1 ∷ 65536 ∷ 65536 ∷ 0 ∷ 65536 ∷ 1 ∷ 0 ∷ 1 ∷ 65536 ∷ []) 6 tt (omega arith) d d′ r room P;
   b = (refl, λ code n. rw n refl);
   c = λ code n. (rw n refl, rw n refl, refl);
   d = λ code n. (rw n refl, rw n refl, refl);
@@ -39,6 +39,6 @@ hold = record {
   h = (refl, refl, refl, refl, refl, refl, refl, refl);
   i = λ value cells n. (rw n refl, rw n refl, refl);
   j = λ code n. (rw n refl, rw n refl, rw n refl, rw n refl);
-  k = (λ d d′ r room P. must-refuse code-k from-zero 2 0 0 1 tt tt tt (λ e. omega arith) (omega arith) d d′ r room P, refl);
-  l = λ d d′ r room P. must-accept [] [] (65536 ∷ []) 0 tt (omega arith) d d′ r room P;
+  k = (λ d d′ r room P. must-refuse _ code-k from-zero 2 0 0 1 tt tt tt (λ e. omega arith) (omega arith) d d′ r room P, refl);
+  l = λ d d′ r room P. must-accept _ [] [] (65536 ∷ []) 0 tt (omega arith) d d′ r room P;
 }

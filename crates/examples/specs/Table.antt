@@ -5,7 +5,7 @@ use mathlib.Core.List.{List, [], _∷_, _++_}
 use Prim.Native.Nat.{ℕ, _%_, _<_}
 use lib.IntN.{ℤ, negsuc}
 use lib.ListN.{length, drop}
-use Rattle.op.specs.Opcodes.{Jump, RaiseUnboundLocal, ForIter, JumpIfTrueOrPop}
+use Rattle.op.specs.Opcodes.{lastOpcode, Jump, RaiseUnboundLocal, ForIter, JumpIfTrueOrPop}
 use Rattle.op.specs.Refusals.{numberOf}
 use Rattle.op.specs.declared.Operand.the-variants.{U16, CallKw}
 use Rattle.op.specs.declared.Refusal.the-variants.{DepthTooLarge, JumpTooFar, TooManyKeywords, NameTooLarge, TooManyConstants, DepthsDiffer, NoDepths}
@@ -69,7 +69,8 @@ patched-0 = markRow patchedKind 0 0
 -- what the check of some bytes with some starts answers, and the depths that it leaves in a slice with room for them
 abbrev pub Checks : List ℕ → List ℕ → Checked → List ℕ → Type 0
 Checks code starts answer depths =
-    (d d′ : List ℕ) (r : Checked) → length code < length d → Promise code starts d d′ r → (r ≡ answer) × (d′ ≡ depths ++ drop (length depths) d)
+    (d d′ : List ℕ) (r : Checked) → length code < length d → Promise lastOpcode code starts d d′ r
+    → (r ≡ answer) × (d′ ≡ depths ++ drop (length depths) d)
 
 -- "those nine bytes"
 abbrev pub code-a : List ℕ

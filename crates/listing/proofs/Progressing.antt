@@ -10,6 +10,7 @@ use lib.Dec.{leb}
 use lib.ListN.{length, getD, drop}
 use lib.Seq.{length-sets}
 use borrow.Author.Tests.{leb-true, leb-false}
+use Rattle.op.specs.Opcodes.{lastOpcode}
 use Rattle.op.specs.Choice.{pick}
 use Rattle.op.specs.Names.{nameText, nameStarts, nameBy}
 use Rattle.op.specs.declared.Refusal.the-variants.{TooLarge}
@@ -51,8 +52,9 @@ onward-of names starts code at old to answer out l = subst (λ (x : Lined). Onwa
     placed : Placed
     placed = placedOf old to (lineOf (nameBy names starts) at (drop at code))
 
-    by : (b : Bool) → Onward (afterAt code at) (pick b (linedBy at placed (decode at (drop at code))) (L.Refused TooLarge))
-    by true = onward-by at placed (decode at (drop at code))
+    by : (b : Bool)
+        → Onward (afterAt code at) (pick b (linedBy at placed (decode lastOpcode at (drop at code))) (L.Refused TooLarge))
+    by true = onward-by at placed (decode lastOpcode at (drop at code))
     by false = tt
 
 -- no line more

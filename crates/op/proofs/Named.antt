@@ -17,7 +17,6 @@ use Rattle.op.specs.Chosen.{LoadLocal0, LoadLocal1, LoadLocal2, LoadLoca
 use Rattle.op.specs.Chosen.{LoadGlobalCallable, CallBuiltinFunction, CallBuiltinType, CallFunctionKw, CallAttrKw}
 use Rattle.op.specs.Names.{ascii, nameIn, nameOf, joined, begins, nameText, nameStarts, between, nameBy}
 use Rattle.op.specs.declared.Shape.the-variants.{None}
-use Rattle.op.proofs.Listed.{rows}
 
 -- the row of a default
 abbrev none : Row
@@ -64,14 +63,14 @@ found text name rest a e p q h =
     let n : length name ≡ e - a = omega arith in
     sym (whole-part text a e h) ∙ ap (take (e - a)) q ∙ take-at name rest (e - a) n
 
--- the 131 names are found in the joined text by their starts
-pub name-by : (k : ℕ) → k < 131 → nameBy nameText nameStarts k ≡ nameOf k
+-- each opcode's name is found in the joined text by its starts
+pub name-by : (k : ℕ) → k < length table → nameBy nameText nameStarts k ≡ nameOf k
 unfolding nameText nameStarts nameBy nameOf rowOf
 name-by k h =
-    let p = part table k (omega (arith, rows)) in
-    let a : getD (begins 0 table) k 0 ≡ length (joined (take k table)) = begins-at table 0 k (omega (arith, rows)) ∙ zero-add _ in
+    let p = part table k h in
+    let a : getD (begins 0 table) k 0 ≡ length (joined (take k table)) = begins-at table 0 k (omega arith) ∙ zero-add _ in
     let t : getD (begins 0 table) (k + 1) 0 ≡ length (joined (take (suc k) table)) =
-    rw (add-one k) (begins-at table 0 (suc k) (omega (arith, rows)) ∙ zero-add _) in
+    rw (add-one k) (begins-at table 0 (suc k) (omega arith) ∙ zero-add _) in
     found (joined table) (nameIn (getD table k none)) (joined (drop (suc k) table)) (getD (begins 0 table) k 0) (getD (begins 0 table) (k + 1) 0)
     (omega (arith, p .0)) (ap (λ (n : ℕ). drop n (joined table)) a ∙ p .1) (omega (arith, joined-take table (suc k)))
 

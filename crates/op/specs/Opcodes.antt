@@ -185,9 +185,13 @@ table =
 abbrev pub lastOpcode : ℕ
 lastOpcode = 130
 
--- whether an opcode has a number; where it has none, refusal 1 is given
+-- refusal 1, "opcode above 130": whether an opcode is in a table that ends with the opcode `last`
+abbrev pub knownUpTo : ℕ → ℕ → Bool
+knownUpTo last k = leb k last
+
+-- the same of the table above
 unfoldable pub known : ℕ → Bool
-known k = leb k lastOpcode
+known k = knownUpTo lastOpcode k
 
 -- an opcode's row
 unfoldable pub rowOf : ℕ → Row

@@ -3,6 +3,7 @@
 use mathlib.Core.List.{List}
 use Prim.Native.Nat.{ℕ, _+_}
 use lib.ListN.{drop}
+use Rattle.op.specs.Opcodes.{lastOpcode}
 use Rattle.code.specs.Decode.{decode}
 use Rattle.code.specs.declared.Step.{Step}
 use Rattle.code.specs.declared.Step.the-variants.{Instr, End, Refused}
@@ -15,4 +16,4 @@ afterStep at (Refused r) = at
 
 -- the offset behind the instruction at an offset
 abbrev pub afterAt : List ℕ → ℕ → ℕ
-afterAt code at = afterStep at (decode at (drop at code))
+afterAt code at = afterStep at (decode lastOpcode at (drop at code))

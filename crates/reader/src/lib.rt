@@ -1,6 +1,7 @@
 // An instruction reader, which holds the code and its place: thin over the decoder's step on a slice and a number.
 ghost use mathlib.Core.Path.{_≡_};
 ghost use lib.ListN.{drop};
+ghost use Rattle.op.specs.Opcodes.{lastOpcode};
 ghost use Rattle.code.specs.Decode.{decode};
 ghost use Rattle.reader.specs.Reader.{afterAt};
 use code::Step;
@@ -38,7 +39,7 @@ impl<'a> InstructionReader<'a> {
 
     // What stands at its place: an instruction, the end, 1 or 22.
     pub fn next(self) -> Step
-        ensures { λ r. ⌜ r ≡ decode (self .entry .at) (drop (self .entry .at) (now (self .entry .code))) ⌝ }
+        ensures { λ r. ⌜ r ≡ decode lastOpcode (self .entry .at) (drop (self .entry .at) (now (self .entry .code))) ⌝ }
     {
         decoder::step_at(self.code, self.at)
     }

@@ -8,6 +8,7 @@ use lib.IntN.{ℤ, pos, negsuc, _+ℤ_}
 use lib.ListN.{length, getD, take, drop, length-append, length-take}
 use lib.Seq.{getD-drop}
 use lib.Signed.{mag}
+use Rattle.op.specs.Opcodes.{lastOpcode}
 use Rattle.op.specs.Shapes.{operandShape, sizeOf}
 use Rattle.op.specs.declared.Operand.{Operand}
 use Rattle.op.specs.declared.Operand.the-variants as O
@@ -49,7 +50,7 @@ call-short p n s h g l b =
     )
 
 -- the operands, and the target
-module _ (u : List ℕ) (few : length (namesAt u) ≤ 510) (bytes : (i : ℕ) → getD (namesAt u) i 0 < 256) where
+module _ (u : List ℕ) (few : length (namesAt lastOpcode u) ≤ 510) (bytes : (i : ℕ) → getD (namesAt lastOpcode u) i 0 < 256) where
   operands-short : (o : Operand) → InRange o → length (operandsAt o u) ≤ 1547
   operands-short O.None r = omega arith
   operands-short (O.U8 a) r = omega (arith, word-short a (omega arith))
@@ -60,14 +61,14 @@ module _ (u : List ℕ) (few : length (namesAt u) ≤ 510) (bytes : (i : ℕ) �
   operands-short (O.U16U8 a b) r = omega (arith, two-short a b (omega arith) (omega arith))
   operands-short (O.U16U16 a b) r = omega (arith, two-short a b (r .0) (r .1))
   operands-short (O.U16U8U8 a b c) r = omega (arith, three-short a b c (omega arith) (omega arith) (omega arith))
-  operands-short (O.CallKw p n) r = omega (arith, ap length (call-text u (namesAt u) p n refl), call-short p n (namesAt u) (r .0) (r .1) few bytes)
+  operands-short (O.CallKw p n) r = omega (arith, ap length (call-text u (namesAt lastOpcode u) p n refl), call-short p n (namesAt lastOpcode u) (r .0) (r .1) few bytes)
   operands-short (O.CallAttrKw a p n) r =
       omega (
         arith,
-        ap length (attr-text u (namesAt u) a p n refl),
-        length-append (decimal a) (44 ∷ callText p n (namesAt u)),
+        ap length (attr-text u (namesAt lastOpcode u) a p n refl),
+        length-append (decimal a) (44 ∷ callText p n (namesAt lastOpcode u)),
         word-short a (r .0),
-        call-short p n (namesAt u) (r .1) (r .2) few bytes,
+        call-short p n (namesAt lastOpcode u) (r .1) (r .2) few bytes,
       )
   operands-short (O.U16U16U8 a b c) r = omega (arith, three-short a b c (omega arith) (omega arith) (omega arith))
 
@@ -121,19 +122,19 @@ module _ (at : ℕ) (o : Operand) (code : List ℕ) (f : Found at o (drop at cod
   below : (i : ℕ) → getD (drop at code) i 0 < 256
   below i = drop-below at code bytes i
 
-  is-decoded : Decoded (drop at code) (f .opcode) o (f .size)
-  is-decoded = decoded at (drop at code) (f .opcode) o (f .size) (f .is)
+  is-decoded : Decoded lastOpcode (drop at code) (f .opcode) o (f .size)
+  is-decoded = decoded lastOpcode at (drop at code) (f .opcode) o (f .size) (f .is)
 
   ranged : InRange o
   ranged = decoded-range (drop at code) below (f .opcode) o (f .size) is-decoded
 
-  names-are : namesAt (drop at code) ≡ take (2 * namesIn o) (drop (sizeOf (operandShape o) 0) (drop at code))
-  names-are = names-part (drop at code) (f .opcode) o (f .size) is-decoded
+  names-are : namesAt lastOpcode (drop at code) ≡ take (2 * namesIn o) (drop (sizeOf (operandShape o) 0) (drop at code))
+  names-are = names-part lastOpcode (drop at code) (f .opcode) o (f .size) is-decoded
 
-  few : length (namesAt (drop at code)) ≤ 510
+  few : length (namesAt lastOpcode (drop at code)) ≤ 510
   few = rw names-are (simp length-take (omega (arith, names-few o ranged)))
 
-  in-bytes : (i : ℕ) → getD (namesAt (drop at code)) i 0 < 256
+  in-bytes : (i : ℕ) → getD (namesAt lastOpcode (drop at code)) i 0 < 256
   in-bytes i = rw names-are (take-below (2 * namesIn o) (drop (sizeOf (operandShape o) 0) (drop at code)) (drop-below (sizeOf (operandShape o) 0) (drop at code) below) i)
 
   pub short : Short at o (drop at code)

@@ -8,6 +8,7 @@ use native.Mathlib.Omega.{arith}
 use lib.Dec.{leb}
 use lib.ListN.{length, drop}
 use borrow.Author.Tests.{le-leb, lt-leb}
+use Rattle.op.specs.Opcodes.{lastOpcode}
 use Rattle.op.specs.Choice.{pick}
 use Rattle.op.specs.Names.{nameOf, nameBy}
 use Rattle.op.specs.Refusals.{numberOf}
@@ -37,28 +38,31 @@ unfolding faultLine
 fault-parts at r = simp append-assoc
 
 -- the line of an instruction, and of a fault
-pub line-of : (name : ℕ → List ℕ) (at : ℕ) (u : List ℕ) (k : ℕ) (o : Operand) (z : ℕ) → decode at u ≡ S.Instr k o z → lineOf name at u ≡ lineText at (name k) o u
+pub line-of : (name : ℕ → List ℕ) (at : ℕ) (u : List ℕ) (k : ℕ) (o : Operand) (z : ℕ)
+    → decode lastOpcode at u ≡ S.Instr k o z → lineOf name at u ≡ lineText at (name k) o u
 unfolding lineOf
 line-of name at u k o z e =
     ap (λ (s : Step). lineBy name at u s) e ∙ sym (regrouped (decimal at) (name k) (operandsAt o u) (targetColumn (targetOf at o)))
 
 -- with op's names it is the text of a row
-pub line-row : (at : ℕ) (u : List ℕ) (k : ℕ) (o : Operand) (z : ℕ) → decode at u ≡ S.Instr k o z
-    → lineOf nameOf at u ≡ line (rowText (rowOf at k o (wordsIn (namesAt u))))
+pub line-row : (at : ℕ) (u : List ℕ) (k : ℕ) (o : Operand) (z : ℕ) → decode lastOpcode at u ≡ S.Instr k o z
+    → lineOf nameOf at u ≡ line (rowText (rowOf at k o (wordsIn (namesAt lastOpcode u))))
 unfolding lineOf rowText
 line-row at u k o z e = ap (λ (s : Step). lineBy nameOf at u s) e
 
-pub fault-of : (name : ℕ → List ℕ) (at : ℕ) (u : List ℕ) (r : Refusal) → decode at u ≡ S.Refused r → lineOf name at u ≡ faultLine at r
+pub fault-of : (name : ℕ → List ℕ) (at : ℕ) (u : List ℕ) (r : Refusal) → decode lastOpcode at u ≡ S.Refused r
+    → lineOf name at u ≡ faultLine at r
 unfolding lineOf
 fault-of name at u r e = ap (λ (s : Step). lineBy name at u s) e
 
-pub no-line : (name : ℕ → List ℕ) (at : ℕ) (u : List ℕ) → decode at u ≡ S.End → lineOf name at u ≡ []
+pub no-line : (name : ℕ → List ℕ) (at : ℕ) (u : List ℕ) → decode lastOpcode at u ≡ S.End → lineOf name at u ≡ []
 unfolding lineOf
 no-line name at u e = ap (λ (s : Step). lineBy name at u s) e
 
 -- a line that was placed is listed
 module _ (names starts code : List ℕ) (at : ℕ) (old : List ℕ) (to : ℕ) (small : length code ≤ most) where
-  pub listed : {p : Placed} {out : List ℕ} (s : Step) → decode at (drop at code) ≡ s → (text : List ℕ) → lineOf (nameBy names starts) at (drop at code) ≡ text
+  pub listed : {p : Placed} {out : List ℕ} (s : Step) → decode lastOpcode at (drop at code) ≡ s → (text : List ℕ)
+      → lineOf (nameBy names starts) at (drop at code) ≡ text
       → Places old to text p out → Lists names starts code at old to (linedBy at p s) out
   unfolding linedOf linedIn
   listed {p} {out} s e text t q =
@@ -72,7 +76,7 @@ module _ (names starts code : List ℕ) (at : ℕ) (old : List ℕ) (to : ℕ) (
   same-either true = refl
   same-either false = refl
 
-  pub list-ends : decode at (drop at code) ≡ S.End → Lists names starts code at old to L.End old
+  pub list-ends : decode lastOpcode at (drop at code) ≡ S.End → Lists names starts code at old to L.End old
   unfolding written
   list-ends e =
       listed {p = placedOf old to []} S.End e [] (no-line (nameBy names starts) at (drop at code) e)
@@ -83,8 +87,9 @@ unfolding linedOf linedIn
 too-large names starts code at old to h = let e = lt-leb (length code) most h in record { answers = rw e; cells = rw e }
 
 -- where an instruction is found
-pub found : (code : List ℕ) (at k : ℕ) (o : Operand) (z : ℕ) → length code ≤ most → decode at (drop at code) ≡ S.Instr k o z → Found at o (drop at code)
-found code at k o z h e = record { opcode = k; size = z; is = e; low = omega (arith, decoded-ends at code k o z e) }
+pub found : (code : List ℕ) (at k : ℕ) (o : Operand) (z : ℕ) → length code ≤ most
+    → decode lastOpcode at (drop at code) ≡ S.Instr k o z → Found at o (drop at code)
+found code at k o z h e = record { opcode = k; size = z; is = e; low = omega (arith, decoded-ends lastOpcode at code k o z e) }
 
 -- the first line
 pub first-header : (size : ℕ) → size ≤ most → header ≡ firstLine size

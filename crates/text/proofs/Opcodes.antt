@@ -13,7 +13,6 @@ use Rattle.op.specs.Names.{nameIn, nameOf}
 use Rattle.op.specs.Opcodes.{Row, op, same as unmoved, table, rowOf}
 use Rattle.op.specs.declared.Shape.the-variants.{None}
 use Rattle.op.proofs.Keys.{in-range}
-use Rattle.op.proofs.Listed.{rows}
 use Rattle.text.specs.Number.{and, all}
 use Rattle.text.specs.Reading.{same, place, opcodeOf}
 use Rattle.text.proofs.ReadBack.{and-left, and-right}
@@ -42,9 +41,9 @@ yes-same s t e = same→eq s t (rw e tt)
 abbrev pub late : ℕ → Bool
 late c = leb 48 c
 
-pub names-late : (k : ℕ) → k < 131 → T (all late (nameOf k))
+pub names-late : (k : ℕ) → k < length table → T (all late (nameOf k))
 unfolding nameOf rowOf table
-names-late k h = in-range (λ (j : ℕ). all late (nameOf j)) 0 131 k (omega arith) (omega arith) tt
+names-late k h = in-range (λ (j : ℕ). all late (nameOf j)) 0 (length table) k (omega arith) (omega arith) tt
 
 -- no name stands at two places
 apart : List Row → Bool
@@ -85,11 +84,11 @@ place-is (s ∷ l) t h = go (same (nameIn s) t) refl h (λ g. place-is l t g)
     go false e h f = f (le-of-suc-le-suc h)
 
 -- a name is read back
-pub named : (k : ℕ) → k < 131 → opcodeOf (nameOf k) ≡ k
+pub named : (k : ℕ) → k < length table → opcodeOf (nameOf k) ≡ k
 unfolding opcodeOf nameOf rowOf
-named k h = place-at table names-apart k (omega (arith, rows))
+named k h = place-at table names-apart k h
 
 -- and what is read as an opcode is its name
-pub read : (t : List ℕ) → opcodeOf t < 131 → nameOf (opcodeOf t) ≡ t
+pub read : (t : List ℕ) → opcodeOf t < length table → nameOf (opcodeOf t) ≡ t
 unfolding opcodeOf nameOf rowOf
-read t h = place-is table t (omega (arith, rows))
+read t h = place-is table t h

@@ -4,6 +4,7 @@ use mathlib.Core.Path.{_≡_, sym, ap, _∙_, subst}
 use mathlib.Core.List.{List, _∷_, _++_}
 use Prim.Native.Nat.{ℕ, _≤_}
 use lib.ListN.{length}
+use Rattle.op.specs.Opcodes.{lastOpcode}
 use Rattle.op.specs.declared.Operand.{Operand}
 use Rattle.op.specs.declared.Operand.the-variants as O
 use Rattle.code.specs.Bytes.{wordsIn}
@@ -23,10 +24,12 @@ pub arm-put : (u : List ℕ) {o x : Operand} {l d d′ : List ℕ} {to r : ℕ} 
 arm-put u {o} {x} {l} {d} {d′} {to} {r} e t p = subst (λ (s : List ℕ). Put d to s r d′) (sym (ap (λ (y : Operand). operandsAt y u) e ∙ t)) p
 
 -- a keyword call, with the names' bytes
-pub call-text : (u bytes : List ℕ) (p n : ℕ) → bytes ≡ namesAt u → operandsAt (O.CallKw p n) u ≡ callText p n bytes
+pub call-text : (u bytes : List ℕ) (p n : ℕ) → bytes ≡ namesAt lastOpcode u
+    → operandsAt (O.CallKw p n) u ≡ callText p n bytes
 call-text u bytes p n e =
-    ap (λ (l : List ℕ). decimal p ++ (44 ∷ l)) (join-led 44 (decimal n) (wholeTexts (wholes (wordsIn (namesAt u)))))
+    ap (λ (l : List ℕ). decimal p ++ (44 ∷ l)) (join-led 44 (decimal n) (wholeTexts (wholes (wordsIn (namesAt lastOpcode u)))))
     ∙ ap (λ (b : List ℕ). callText p n b) (sym e)
 
-pub attr-text : (u bytes : List ℕ) (a p n : ℕ) → bytes ≡ namesAt u → operandsAt (O.CallAttrKw a p n) u ≡ decimal a ++ (44 ∷ callText p n bytes)
+pub attr-text : (u bytes : List ℕ) (a p n : ℕ) → bytes ≡ namesAt lastOpcode u
+    → operandsAt (O.CallAttrKw a p n) u ≡ decimal a ++ (44 ∷ callText p n bytes)
 attr-text u bytes a p n e = ap (λ (l : List ℕ). decimal a ++ (44 ∷ l)) (call-text u bytes p n e)

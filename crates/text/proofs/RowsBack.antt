@@ -7,10 +7,12 @@ use mathlib.Core.Option.{Option, none, some}
 use Prim.Native.Nat.{ℕ, suc, _<_}
 use native.Mathlib.Omega.{arith}
 use lib.Dec.{T, eqb, leb→le, lit<}
-use Rattle.op.specs.Opcodes.{known}
+use lib.ListN.{length}
+use Rattle.op.specs.Opcodes.{table}
+use Rattle.op.proofs.Listed.{known-row}
 use lib.IntN.{ℤ, pos, negsuc}
 use lib.Seq.{append-snoc}
-use borrow.Author.Tests.{ne-eqb, le-leb}
+use borrow.Author.Tests.{ne-eqb}
 use Rattle.text.specs.Decimal.{decimal, wholeText}
 use Rattle.text.specs.Number.{all, digit, natural, value}
 use Rattle.text.specs.Parts.{join, split}
@@ -22,11 +24,6 @@ use Rattle.text.proofs.Opcodes.{named, late, names-late, yes-same}
 use Rattle.text.specs.Listing.{line}
 use Rattle.text.specs.Row.{Row, dash, wholeTexts, operandColumn, targetColumn, rowText}
 use Rattle.text.specs.Reading.{readWhole, readAll, readOperands, readTarget, readFields, readRow}
-
--- an opcode below 131 is known
-known-below : (k : ℕ) → k < 131 → known k ≡ true
-unfolding known
-known-below k h = le-leb k 130 (omega arith)
 
 T-true : (b : Bool) → T b → b ≡ true
 T-true true t = refl
@@ -65,7 +62,7 @@ free-whole : (s : ℕ) (z : ℤ) → s < 45 → Free s (wholeText z)
 free-whole s (pos n) h = free-decimal s n (omega arith)
 free-whole s (negsuc n) h = and-both (other s 45) (all (other s) (decimal (suc n))) (is-other s 45 (λ e. omega arith)) (free-decimal s (suc n) (omega arith))
 
-free-name : (s op : ℕ) → s < 48 → op < 131 → Free s (nameOf op)
+free-name : (s op : ℕ) → s < 48 → op < length table → Free s (nameOf op)
 free-name s op h o = all-mono late (other s) (λ x d. is-other s x (λ e. omega (arith, leb→le 48 x d))) (nameOf op) (names-late op o)
 
 free-wholes : (s : ℕ) (zs : List ℤ) → s < 45 → AllFree s (wholeTexts zs)
@@ -117,21 +114,22 @@ target-back (some z) =
     rw (n, whole-back z)
 
 -- a row is read as it was written
-pub row-back : (r : Row) → r .opcode < 131 → readRow (rowText r) ≡ some r
+pub row-back : (r : Row) → r .opcode < length table → readRow (rowText r) ≡ some r
 unfolding readRow rowText
 row-back r h =
     ap readFields
     (split-join 9 (decimal (r .offset)) (nameOf (r .opcode) ∷ operandColumn (r .operands) ∷ targetColumn (r .target) ∷ [])
     (free-decimal 9 (r .offset) (lit< tt), (free-name 9 (r .opcode) (lit< tt) h, (free-operands 9 (r .operands) (lit< tt), (free-target 9 (r .target) (lit< tt), tt)))))
-    ∙ rw (T-true (natural (decimal (r .offset))) (natural-decimal (r .offset)), value-decimal (r .offset), named (r .opcode) h, known-below (r .opcode) h, operands-back (r .operands), target-back (r .target))
+    ∙ rw (T-true (natural (decimal (r .offset))) (natural-decimal (r .offset)), value-decimal (r .offset), named (r .opcode) h, known-row (r .opcode) .1 h, operands-back (r .operands), target-back (r .target))
 
 -- and no line's end stands in it
-pub row-free : (r : Row) → r .opcode < 131 → Free 10 (rowText r)
+pub row-free : (r : Row) → r .opcode < length table → Free 10 (rowText r)
 unfolding rowText
 row-free r h =
     free-join 10 9 (decimal (r .offset) ∷ nameOf (r .opcode) ∷ operandColumn (r .operands) ∷ targetColumn (r .target) ∷ []) (λ e. omega arith)
     (free-decimal 10 (r .offset) (lit< tt), (free-name 10 (r .opcode) (lit< tt) h, (free-operands 10 (r .operands) (lit< tt), (free-target 10 (r .target) (lit< tt), tt))))
 
 -- so a line is found again in front of other lines
-pub line-found : (r : Row) (rest : List ℕ) → r .opcode < 131 → split 10 (line (rowText r) ++ rest) ≡ rowText r ∷ split 10 rest
+pub line-found : (r : Row) (rest : List ℕ) → r .opcode < length table
+    → split 10 (line (rowText r) ++ rest) ≡ rowText r ∷ split 10 rest
 line-found r rest h = ap (split 10) (append-snoc (rowText r) 10 rest) ∙ split-onto 10 (rowText r) rest (row-free r h)

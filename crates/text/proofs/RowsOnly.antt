@@ -7,10 +7,12 @@ use mathlib.Core.Option.{Option, none, some}
 use Prim.Native.Nat.{ℕ, suc, _-_, _<_}
 use native.Mathlib.Omega.{arith}
 use lib.Dec.{T, eqb}
+use lib.ListN.{length}
 use Rattle.op.specs.Choice.{pick}
-use Rattle.op.specs.Opcodes.{known}
+use Rattle.op.specs.Opcodes.{table, known}
+use Rattle.op.proofs.Listed.{known-row}
 use lib.IntN.{ℤ, pos, negsuc}
-use borrow.Author.Tests.{eqb-true, eqb-false, leb-true, not-true}
+use borrow.Author.Tests.{eqb-true, eqb-false, not-true}
 use Rattle.text.specs.Decimal.{decimal, wholeText}
 use Rattle.text.specs.Number.{and, natural, value}
 use Rattle.text.specs.Parts.{join, split}
@@ -21,11 +23,6 @@ use Rattle.text.specs.Reading.{same, opcodeOf}
 use Rattle.text.proofs.Opcodes.{read, yes-same}
 use Rattle.text.specs.Row.{Row, dash, wholeTexts, operandColumn, targetColumn, rowText}
 use Rattle.text.specs.Reading.{onlyIf, positive, negative, readWhole, both, readAll, readOperands, present, readTarget, row, readFields, readRow}
-
--- a known opcode is below 131
-known-low : (k : ℕ) → known k ≡ true → k < 131
-unfolding known
-known-low k e = omega (arith, leb-true k 130 e)
 
 nothing {ℓ} : {A : Type ℓ} {a : A} → none ≡ some a → ⊥
 nothing {a} e = let y : _≡_ {A = ℕ} 0 1 = cc in omega arith
@@ -101,7 +98,7 @@ target-text t z e = go (same t dash) refl e
 record Said (a b c d : List ℕ) (r : Row) : Type 0 where
   offset-is : a ≡ decimal (r .offset)
   name-is : b ≡ nameOf (r .opcode)
-  known : r .opcode < 131
+  known : r .opcode < length table
   operands-are : c ≡ operandColumn (r .operands)
   target-is : d ≡ targetColumn (r .target)
 
@@ -114,11 +111,12 @@ said a b c d r true e₁ true e₂ (some zs) e₃ none e₄ e = absurd (nothing 
 said a b c d r true e₁ true e₂ (some zs) e₃ (some z) e₄ e =
     let s : Row = record { offset = value a; opcode = opcodeOf b; operands = zs; target = z } in
     let q : s ≡ r = cc in
-    let k = known-low (opcodeOf b) e₂ in
+    let k = known-row (opcodeOf b) .0 e₂ in
     subst (λ (x : Row). Said a b c d x) q
     (record { offset-is = sym (decimal-value a (yes-T (natural a) e₁)); name-is = sym (read b k); known = k; operands-are = operands-text c zs e₃; target-is = target-text d z e₄ })
 
-fields-text : (fs : List (List ℕ)) (r : Row) → readFields fs ≡ some r → (join 9 fs ≡ rowText r) × (r .opcode < 131)
+fields-text : (fs : List (List ℕ)) (r : Row) → readFields fs ≡ some r
+    → (join 9 fs ≡ rowText r) × (r .opcode < length table)
 unfolding rowText
 fields-text [] r e = absurd (nothing e)
 fields-text (a ∷ []) r e = absurd (nothing e)
@@ -130,6 +128,6 @@ fields-text (a ∷ b ∷ c ∷ d ∷ []) r e =
 fields-text (a ∷ b ∷ c ∷ d ∷ x ∷ ts) r e = absurd (nothing e)
 
 -- what is read as a row is that row's text
-pub row-text : (t : List ℕ) (r : Row) → readRow t ≡ some r → (t ≡ rowText r) × (r .opcode < 131)
+pub row-text : (t : List ℕ) (r : Row) → readRow t ≡ some r → (t ≡ rowText r) × (r .opcode < length table)
 unfolding readRow
 row-text t r e = let f = fields-text (split 9 t) r e in (sym (join-split 9 t) ∙ f .0, f .1)

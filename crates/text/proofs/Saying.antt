@@ -12,7 +12,7 @@ use lib.Seq.{sets}
 use borrow.Author.Tests.{le-leb, leb-true}
 use Rattle.op.specs.Choice.{pick}
 use Rattle.op.specs.Names.{nameOf, nameText, nameStarts, nameBy}
-use Rattle.op.specs.Opcodes.{table, rowOf}
+use Rattle.op.specs.Opcodes.{lastOpcode, table, rowOf}
 use Rattle.op.specs.Refusals.{numberOf}
 use Rattle.op.specs.Shapes.{operandShape}
 use Rattle.op.specs.declared.Refusal.{Refusal}
@@ -43,11 +43,12 @@ module _ (code : List ℕ) (at : ℕ) (old : List ℕ) (to : ℕ) where
   abbrev here : List ℕ
   here = lineOf own at (drop at code)
 
-  by-step : length code ≤ most → length (lineOf own at (drop at code)) ≤ length old - to → (s : Step) → decode at (drop at code) ≡ s
+  by-step : length code ≤ most → length (lineOf own at (drop at code)) ≤ length old - to → (s : Step)
+      → decode lastOpcode at (drop at code) ≡ s
       → Says code at old to (linedBy at (Behind (to + length here)) s)
       (sets old to here)
   by-step h f (S.Instr k o z) e =
-      let d = decoded-ends at code k o z e in
+      let d = decoded-ends lastOpcode at code k o z e in
       record {
         text = here;
         puts = record { next-is = refl; out-is = refl };
@@ -61,17 +62,18 @@ module _ (code : List ℕ) (at : ℕ) (old : List ℕ) (to : ℕ) where
       let t : here ≡ restOf code at = own-names at (drop at code) ∙ sym (rest-fault code at h r e) in
       (record { next-is = ap (λ (l : List ℕ). to + length l) t; out-is = ap (λ (l : List ℕ). sets old to l) t }, omega (arith, f, ap length t))
 
-  full-step : length code ≤ most → (s : Step) → decode at (drop at code) ≡ s → Says code at old to (linedBy at (Refused (Full Text)) s) old
+  full-step : length code ≤ most → (s : Step) → decode lastOpcode at (drop at code) ≡ s
+      → Says code at old to (linedBy at (Refused (Full Text)) s) old
   full-step h (S.Instr k o z) e = refl
   full-step h S.End e = (refl, rest-end code at h e)
   full-step h (S.Refused r) e = refl
 
   by-tests : (b : Bool) → leb (length code) most ≡ b → (t : Bool) → fits old to here ≡ t
       → Says code at old to
-      (pick b (linedBy at (pick t (Behind (to + length here)) (Refused (Full Text))) (decode at (drop at code))) (L.Refused TooLarge))
+      (pick b (linedBy at (pick t (Behind (to + length here)) (Refused (Full Text))) (decode lastOpcode at (drop at code))) (L.Refused TooLarge))
       (pick b (pick t (sets old to here) old) old)
-  by-tests true e true q = by-step (leb-true (length code) most e) (leb-true (length here) (length old - to) q) (decode at (drop at code)) refl
-  by-tests true e false q = full-step (leb-true (length code) most e) (decode at (drop at code)) refl
+  by-tests true e true q = by-step (leb-true (length code) most e) (leb-true (length here) (length old - to) q) (decode lastOpcode at (drop at code)) refl
+  by-tests true e false q = full-step (leb-true (length code) most e) (decode lastOpcode at (drop at code)) refl
   by-tests false e t q = refl
 
   tested : Says code at old to (linedOf own code at old to) (linedIn own code at old to)
@@ -84,9 +86,9 @@ module _ (code : List ℕ) (at : ℕ) (old : List ℕ) (to : ℕ) where
       subst (λ (x : List ℕ). Says code at old to answer x) (sym (l .cells)) (subst (λ (x : Lined). Says code at old to x (linedIn own code at old to)) (sym (l .answers)) tested)
 
 -- no name of op's is longer than 20
-pub name-short : (k : ℕ) → k < 131 → length (nameOf k) ≤ 20
+pub name-short : (k : ℕ) → k < length table → length (nameOf k) ≤ 20
 unfolding nameOf rowOf table
-name-short k h = leb→le (length (nameOf k)) 20 (in-range (λ (j : ℕ). leb (length (nameOf j)) 20) 0 131 k (omega arith) (omega arith) tt)
+name-short k h = leb→le (length (nameOf k)) 20 (in-range (λ (j : ℕ). leb (length (nameOf j)) 20) 0 (length table) k (omega arith) (omega arith) tt)
 
 -- a refusal's number has two digits at most
 number-short : (r : Refusal) → numberOf r < 100
@@ -117,9 +119,9 @@ number-short R.NoDepths = omega arith
 
 -- no line of op's names has more than 2,048 bytes
 module _ (code : List ℕ) (at : ℕ) (small : length code ≤ most) (bytes : (i : ℕ) → getD code i 0 < 256) where
-  by-kind : (s : Step) → decode at (drop at code) ≡ s → length (lineOf nameOf at (drop at code)) ≤ 2048
+  by-kind : (s : Step) → decode lastOpcode at (drop at code) ≡ s → length (lineOf nameOf at (drop at code)) ≤ 2048
   by-kind (S.Instr k o z) e =
-      let d = decoded at (drop at code) k o z e in
+      let d = decoded lastOpcode at (drop at code) k o z e in
       let n = name-short k (known-below k (operandShape o) (d .shape)) in
       omega (arith, n, ap length (line-of nameOf at (drop at code) k o z e), line-short at o code (found code at k o z small e) bytes (nameOf k))
   by-kind S.End e = omega (arith, ap length (no-line nameOf at (drop at code) e))
@@ -128,7 +130,7 @@ module _ (code : List ℕ) (at : ℕ) (small : length code ≤ most) (bytes : (i
       omega (arith, ap length (fault-of nameOf at (drop at code) r e ∙ sym (fault-parts at r)), fault-short at (numberOf r) (omega arith) (omega (arith, number-short r)))
 
   pub line-bounded : length (lineOf own at (drop at code)) ≤ 2048
-  line-bounded = rw (own-names at (drop at code)) (by-kind (decode at (drop at code)) refl)
+  line-bounded = rw (own-names at (drop at code)) (by-kind (decode lastOpcode at (drop at code)) refl)
 
 -- whether an answer is a refusal
 abbrev pub Accepted : Lined → Type 0
@@ -149,7 +151,7 @@ unfolding linedOf placedOf
 never-full code at old to answer out small bytes room l =
     let here = lineOf own at (drop at code) in
     let t = le-leb (length here) (length old - to) (omega (arith, line-bounded code at small bytes)) in
-    rw (l .answers, le-leb (length code) most small, t) (accepted at (to + length here) (decode at (drop at code)))
+    rw (l .answers, le-leb (length code) most small, t) (accepted at (to + length here) (decode lastOpcode at (drop at code)))
 
 -- so a refusal says that the code is too long, and then no line is left
 pub refused-large : (code : List ℕ) (at : ℕ) (old : List ℕ) (to : ℕ) (r : Refusal) (out : List ℕ) → ((i : ℕ) → getD code i 0 < 256)

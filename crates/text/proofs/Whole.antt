@@ -8,16 +8,18 @@ use native.Mathlib.Omega.{arith}
 use lib.Dec.{leb}
 use lib.ListN.{length, drop, length-drop}
 use lib.Seq.{drop-drop}
-use borrow.Author.Tests.{le-leb, lt-leb, leb-true}
+use borrow.Author.Tests.{le-leb, lt-leb}
 use Rattle.op.specs.Choice.{pick}
 use Rattle.op.specs.Names.{nameOf, nameText, nameStarts, nameBy}
-use Rattle.op.specs.Opcodes.{known, rowOf}
-use Rattle.op.specs.Shapes.{shapeOf, shapeIn, operandShape}
+use Rattle.op.specs.Opcodes.{table, lastOpcode}
+use Rattle.op.specs.Shapes.{shapeOf, operandShape}
 use Rattle.op.specs.declared.Operand.{Operand}
 use Rattle.op.specs.declared.Refusal.{Refusal}
-use Rattle.op.specs.declared.Refusal.the-variants.{UnknownOpcode, TooLarge}
+use Rattle.op.specs.declared.Refusal.the-variants.{TooLarge}
 use Rattle.op.specs.declared.Shape.{Shape}
 use Rattle.op.specs.declared.Shaped.the-variants as P
+use Rattle.op.proofs.Effected.{shape-is}
+use Rattle.op.proofs.Listed.{known-row}
 use Rattle.op.proofs.Named.{name-by}
 use Rattle.code.specs.Decode.{decode}
 use Rattle.code.specs.declared.Step.{Step}
@@ -28,17 +30,18 @@ use Rattle.text.specs.Listing.{most, header, faultLine, firstLine, lineO
 use Rattle.text.proofs.Lining.{line-of, fault-of, no-line}
 
 -- one line, and what is behind it
-one-more : (n at : ℕ) (u : List ℕ) (s : Step) → decode at u ≡ s → linesOf (suc n) at u ≡ lineOf nameOf at u ++ behind (linesOf n) at u s
+one-more : (n at : ℕ) (u : List ℕ) (s : Step) → decode lastOpcode at u ≡ s
+    → linesOf (suc n) at u ≡ lineOf nameOf at u ++ behind (linesOf n) at u s
 unfolding linesOf
 one-more n at u s e = ap (λ (x : Step). lineOf nameOf at u ++ behind (linesOf n) at u x) e
 
 -- nothing at the end
-lines-end : (n at : ℕ) (u : List ℕ) → decode at u ≡ S.End → linesOf n at u ≡ []
+lines-end : (n at : ℕ) (u : List ℕ) → decode lastOpcode at u ≡ S.End → linesOf n at u ≡ []
 unfolding linesOf
 lines-end zero at u e = refl
 lines-end (suc n) at u e = one-more n at u S.End e ∙ append-nil (lineOf nameOf at u) ∙ no-line nameOf at u e
 
-end-here : (at : ℕ) (u : List ℕ) → length u ≤ 0 → decode at u ≡ S.End
+end-here : (at : ℕ) (u : List ℕ) → length u ≤ 0 → decode lastOpcode at u ≡ S.End
 unfolding decode
 end-here at [] h = refl
 end-here at (k ∷ u) h = let z : ⊥ = omega arith in absurd z
@@ -46,9 +49,9 @@ end-here at (k ∷ u) h = let z : ⊥ = omega arith in absurd z
 -- no more lines are asked for than there are bytes
 fuel-step : (n m at : ℕ) (u : List ℕ) → length u ≤ suc n → length u ≤ suc m
     → ((at′ : ℕ) (v : List ℕ) → length v ≤ n → length v ≤ m → linesOf n at′ v ≡ linesOf m at′ v)
-    → (s : Step) → decode at u ≡ s → linesOf (suc n) at u ≡ linesOf (suc m) at u
+    → (s : Step) → decode lastOpcode at u ≡ s → linesOf (suc n) at u ≡ linesOf (suc m) at u
 fuel-step n m at u h g f (S.Instr k o z) e =
-    let d = decoded at u k o z e in
+    let d = decoded lastOpcode at u k o z e in
     one-more n at u (S.Instr k o z) e
     ∙ ap (λ (l : List ℕ). lineOf nameOf at u ++ l)
     (f (at + z) (drop z u) (omega (arith, d .some, length-drop z u)) (omega (arith, d .some, length-drop z u)))
@@ -59,13 +62,13 @@ fuel-step n m at u h g f (S.Refused r) e = one-more n at u (S.Refused r) e ∙ s
 fuel : (n m at : ℕ) (u : List ℕ) → length u ≤ n → length u ≤ m → linesOf n at u ≡ linesOf m at u
 fuel zero m at u h g = lines-end zero at u (end-here at u h) ∙ sym (lines-end m at u (end-here at u h))
 fuel (suc n) zero at u h g = lines-end (suc n) at u (end-here at u g) ∙ sym (lines-end zero at u (end-here at u g))
-fuel (suc n) (suc m) at u h g = fuel-step n m at u h g (λ at′ v p q. fuel n m at′ v p q) (decode at u) refl
+fuel (suc n) (suc m) at u h g = fuel-step n m at u h g (λ at′ v p q. fuel n m at′ v p q) (decode lastOpcode at u) refl
 
-faultless : (at : ℕ) (u : List ℕ) (r : Refusal) → decode at u ≡ S.Refused r → length u ≤ 0 → ⊥
+faultless : (at : ℕ) (u : List ℕ) (r : Refusal) → decode lastOpcode at u ≡ S.Refused r → length u ≤ 0 → ⊥
 faultless at u r e h = let x = sym (end-here at u h) ∙ e in let y : _≡_ {A = ℕ} 0 1 = cc in omega arith
 
 -- where a fault is, there is a byte
-pub faulted : (at : ℕ) (u : List ℕ) (r : Refusal) → decode at u ≡ S.Refused r → 0 < length u
+pub faulted : (at : ℕ) (u : List ℕ) (r : Refusal) → decode lastOpcode at u ≡ S.Refused r → 0 < length u
 faulted at [] r e = absurd (faultless at [] r e (omega arith))
 faulted at (k ∷ u) r e = omega arith
 
@@ -85,9 +88,10 @@ rest-is code at small = rw (le-leb (length code) most small)
 
 module _ (code : List ℕ) (at : ℕ) (small : length code ≤ most) where
   -- an instruction's line, and the lines behind it
-  pub rest-line : (k : ℕ) (o : Operand) (z : ℕ) → decode at (drop at code) ≡ S.Instr k o z → restOf code at ≡ lineOf nameOf at (drop at code) ++ restOf code (at + z)
+  pub rest-line : (k : ℕ) (o : Operand) (z : ℕ) → decode lastOpcode at (drop at code) ≡ S.Instr k o z
+      → restOf code at ≡ lineOf nameOf at (drop at code) ++ restOf code (at + z)
   rest-line k o z e =
-      let f = decoded-ends at code k o z e in
+      let f = decoded-ends lastOpcode at code k o z e in
       let s : suc (length code - at - 1) ≡ length code - at = omega (arith, f) in
       let a : length (drop z (drop at code)) ≤ length code - at - 1 = omega (arith, f, length-drop z (drop at code), length-drop at code) in
       let b : length (drop z (drop at code)) ≤ length code - (at + z) = omega (arith, f, length-drop z (drop at code), length-drop at code) in
@@ -97,7 +101,8 @@ module _ (code : List ℕ) (at : ℕ) (small : length code ≤ most) where
       ∙ ap (λ (l : List ℕ). lineOf nameOf at (drop at code) ++ l) later
 
   -- a fault's line is the last
-  pub rest-fault : (r : Refusal) → decode at (drop at code) ≡ S.Refused r → restOf code at ≡ lineOf nameOf at (drop at code)
+  pub rest-fault : (r : Refusal) → decode lastOpcode at (drop at code) ≡ S.Refused r
+      → restOf code at ≡ lineOf nameOf at (drop at code)
   rest-fault r e = rest-is code at small ∙ by (length code - at) refl
     where
       by : (n : ℕ) → length code - at ≡ n → linesOf (length code - at) at (drop at code) ≡ lineOf nameOf at (drop at code)
@@ -105,7 +110,7 @@ module _ (code : List ℕ) (at : ℕ) (small : length code ≤ most) where
       by (suc n) q = ap (λ (m : ℕ). linesOf m at (drop at code)) q ∙ one-more n at (drop at code) (S.Refused r) e ∙ append-nil (lineOf nameOf at (drop at code))
 
   -- at the end there is none
-  pub rest-end : decode at (drop at code) ≡ S.End → restOf code at ≡ []
+  pub rest-end : decode lastOpcode at (drop at code) ≡ S.End → restOf code at ≡ []
   rest-end e = rest-is code at small ∙ lines-end (length code - at) at (drop at code) e
 
 -- and in code that is too long
@@ -114,20 +119,15 @@ unfolding restOf
 rest-large code at h = rw (lt-leb (length code) most h)
 
 -- op's names are found in its own text
-pub known-below : (k : ℕ) (s : Shape) → shapeOf k ≡ P.Is s → k < 131
-unfolding shapeOf known
-known-below k s e = by (leb k 130) refl e
-  where
-    by : (b : Bool) → leb k 130 ≡ b → pick b (P.Is (shapeIn (rowOf k))) (P.Refused UnknownOpcode) ≡ P.Is s → k < 131
-    by true q e = omega (arith, leb-true k 130 q)
-    by false q e = let y : _≡_ {A = ℕ} 0 1 = cc in omega arith
+pub known-below : (k : ℕ) (s : Shape) → shapeOf k ≡ P.Is s → k < length table
+known-below k s e = known-row k .0 (shape-is k s e .0)
 
 pub own-names : (at : ℕ) (u : List ℕ) → lineOf (nameBy nameText nameStarts) at u ≡ lineOf nameOf at u
-own-names at u = by (decode at u) refl
+own-names at u = by (decode lastOpcode at u) refl
   where
-    by : (s : Step) → decode at u ≡ s → lineOf (nameBy nameText nameStarts) at u ≡ lineOf nameOf at u
+    by : (s : Step) → decode lastOpcode at u ≡ s → lineOf (nameBy nameText nameStarts) at u ≡ lineOf nameOf at u
     by (S.Instr k o z) e =
-        let d = decoded at u k o z e in
+        let d = decoded lastOpcode at u k o z e in
         line-of (nameBy nameText nameStarts) at u k o z e ∙ ap (λ (n : List ℕ). lineText at n o u) (name-by k (known-below k (operandShape o) (d .shape)))
         ∙ sym (line-of nameOf at u k o z e)
     by S.End e = no-line (nameBy nameText nameStarts) at u e ∙ sym (no-line nameOf at u e)

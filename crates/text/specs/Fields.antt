@@ -3,6 +3,7 @@
 use mathlib.Core.Path.{_≡_}
 use mathlib.Core.List.{List, [], _∷_, _++_}
 use Prim.Native.Nat.{ℕ, _≤_}
+use Rattle.op.specs.Opcodes.{lastOpcode}
 use Rattle.op.specs.declared.Operand.{Operand}
 use Rattle.code.specs.Bytes.{wordsIn}
 use Rattle.code.specs.Decode.{decode, namesAt}
@@ -30,7 +31,7 @@ tailText at o = 9 ∷ targetColumn (targetOf at o) ++ (10 ∷ [])
 
 -- the operands of what stands at the front of u
 abbrev pub operandsAt : Operand → List ℕ → List ℕ
-operandsAt o u = operandColumn (operandsOf o (wordsIn (namesAt u)))
+operandsAt o u = operandColumn (operandsOf o (wordsIn (namesAt lastOpcode u)))
 
 -- all behind the name
 abbrev pub backText : ℕ → Operand → List ℕ → List ℕ
@@ -48,5 +49,5 @@ faultText at n = 33 ∷ 9 ∷ (frontText at ++ (decimal n ++ (10 ∷ [])))
 pub record Found (at : ℕ) (o : Operand) (u : List ℕ) : Type 0 where
   pub opcode : ℕ
   pub size : ℕ
-  pub is : decode at u ≡ Instr opcode o size
+  pub is : decode lastOpcode at u ≡ Instr opcode o size
   pub low : at ≤ most

@@ -5,6 +5,7 @@ use mathlib.Core.List.{List, [], _++_}
 use Prim.Native.Nat.{ℕ, _+_, _-_, _≤_, _<_}
 use lib.Dec.{leb}
 use lib.ListN.{length, drop}
+use Rattle.op.specs.Opcodes.{lastOpcode}
 use Rattle.op.specs.Choice.{pick}
 use Rattle.op.specs.Names.{nameBy}
 use Rattle.op.specs.declared.Refusal.the-variants.{TooLarge}
@@ -37,7 +38,7 @@ linedBy at p (S.Refused r) = faultSaid p
 unfoldable pub linedOf : (ℕ → List ℕ) → List ℕ → ℕ → List ℕ → ℕ → Lined
 linedOf name code at old to =
     pick (leb (length code) most)
-    (linedBy at (placedOf old to (lineOf name at (drop at code))) (decode at (drop at code)))
+    (linedBy at (placedOf old to (lineOf name at (drop at code))) (decode lastOpcode at (drop at code)))
     (L.Refused TooLarge)
 
 -- and every cell of that text

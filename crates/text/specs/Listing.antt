@@ -4,6 +4,7 @@ use mathlib.Core.List.{List, [], _∷_, _++_}
 use Prim.Native.Nat.{ℕ, zero, suc, _+_, _-_}
 use lib.Dec.{leb}
 use lib.ListN.{length, drop}
+use Rattle.op.specs.Opcodes.{lastOpcode}
 use Rattle.op.specs.Choice.{pick}
 use Rattle.op.specs.Names.{ascii, nameOf}
 use Rattle.op.specs.Refusals.{numberOf}
@@ -35,13 +36,13 @@ most = 65536
 
 -- the line of what a step finds at the front of u, the code from an offset on; names by a rule
 abbrev pub lineBy : (ℕ → List ℕ) → ℕ → List ℕ → Step → List ℕ
-lineBy name at u (S.Instr k o size) = line (fieldsText (name k) (rowOf at k o (wordsIn (namesAt u))))
+lineBy name at u (S.Instr k o size) = line (fieldsText (name k) (rowOf at k o (wordsIn (namesAt lastOpcode u))))
 lineBy name at u S.End = []
 lineBy name at u (S.Refused r) = faultLine at r
 
 -- the line of what stands at the front of u
 unfoldable pub lineOf : (ℕ → List ℕ) → ℕ → List ℕ → List ℕ
-lineOf name at u = lineBy name at u (decode at u)
+lineOf name at u = lineBy name at u (decode lastOpcode at u)
 
 -- what comes behind an instruction, and nothing behind a fault
 abbrev pub behind : (ℕ → List ℕ → List ℕ) → ℕ → List ℕ → Step → List ℕ
@@ -52,7 +53,7 @@ behind f at u (S.Refused r) = []
 -- the lines of u, n of them at most
 unfoldable pub linesOf : ℕ → ℕ → List ℕ → List ℕ
 linesOf zero at u = []
-linesOf (suc n) at u = let more = linesOf n in lineOf nameOf at u ++ behind more at u (decode at u)
+linesOf (suc n) at u = let more = linesOf n in lineOf nameOf at u ++ behind more at u (decode lastOpcode at u)
 
 -- the whole listing; an instruction has a byte at least, so there are no more lines than bytes
 unfoldable pub listingOf : List ℕ → List ℕ

@@ -20,7 +20,7 @@ add-result : tie.Need-add-result
 add-result c =
     let c3 = c .before .before .before in
     let a = c3 .before .before .args in
-    omega (arith, decoded-ends (a .at) (now (a .code)) _ _ _ (sym (c3 .step-at .ensures) ∙ c .before .step .given .1) .1)
+    omega (arith, decoded-ends _ (a .at) (now (a .code)) _ _ _ (sym (c3 .step-at .ensures) ∙ c .before .step .given .1) .1)
 
 enum-told : tie.Need-enum-told
 enum-told c = search needs

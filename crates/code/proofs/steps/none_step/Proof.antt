@@ -6,7 +6,7 @@ use denote.Ref.{now}
 use borrow.Author.Needs.{needs}
 use Rattle.op.specs.Shapes.{sizeOf}
 use Rattle.code.specs.Decode.{operandIn}
-use Rattle.code.proofs.Decoding.{decode-instr}
+use Rattle.code.proofs.Decoding.{step-instr}
 use Rattle.code.proofs.steps.none_step.Statement.{statement}
 use Rattle.code.proofs.steps.none_step.Tie as tie
 
@@ -16,7 +16,7 @@ shared-slice-read-t4 c = search needs
 returns : tie.Need-returns
 unfolding sizeOf operandIn
 returns c =
-    decode-instr (c .before .args .at) (now (c .before .args .bytes)) (c .before .pre .some) _ (c .before .pre .shape) 1 refl _ refl (omega (arith, c .before .pre .some))
+    step-instr (c .before .args .at) _ (now (c .before .args .bytes)) 1 refl _ refl (omega (arith, c .before .pre))
 
 pub none-step-spec : {M : Type 1} → statement M
 none-step-spec = tie.close (tie.spec shared-slice-read-t4 returns)

@@ -34,6 +34,7 @@ use denote.Triple.Table.{entered, cited}
 use denote.Triple.Walked.{says, Stays, stay-none, walkOf, goes-none, Walks, ends-at, walked, walk-meets}
 use denote.Exit.{yes}
 use lib.ListN.{drop as dropN}
+use Rattle.op.specs.Opcodes.{lastOpcode}
 use Rattle.code.specs.Decode.{decode}
 use Rattle.reader.specs.declared.InstructionReader.{InstructionReader}
 use Rattle.code.specs.declared.Step.{Step}
@@ -68,7 +69,8 @@ module _ {M : Type 1} (𝓤 : URA M) (H : Heap 𝓤) (A : Atoms 𝓤) (W : Given
   abbrev Tok : Item 𝓤
   Tok = toks 𝓤 H A step.ended (step.clauses 𝓤 H A mem run) to
 
-  exits : (t : Step) (u : Val) → t ≡ decode (d .at) (dropN (d .at) (now (d .code))) → Sq W (‵ (S.the-row .own t (u ∷ [])) ∷ Tok ∷ ‵ (Rd κ d) ∷ []) (prop (Post u))
+  exits : (t : Step) (u : Val) → t ≡ decode lastOpcode (d .at) (dropN (d .at) (now (d .code)))
+      → Sq W (‵ (S.the-row .own t (u ∷ [])) ∷ Tok ∷ ‵ (Rd κ d) ∷ []) (prop (Post u))
   exits t u e =
       suffices ! _ (ends-at 𝓤 H A next.ended stayed (next.clauses 𝓤 H A mem run) W (((κ, tt), (q, tt), tt, (d, tt), (mach ∷ [], tt)), tt) u t (tt, tt) (tt, tt)) $ says ! e $
       move ! (1 ∷ []) $ frame ! $ nothing ! $ move ! (2 ∷ 0 ∷ []) $ fjoin ! $ frame ! $ done !
@@ -83,7 +85,7 @@ module _ {M : Type 1} (𝓤 : URA M) (H : Heap 𝓤) (A : Atoms 𝓤) (W : Given
         -- [what the slice owns; what the reader owns; true; _3; …; the tokens]: the callee's arguments are put together
         move ! (9 ∷ []) $ fsplit ! $ use1 W (‵ (Own κ (d .code)) ⊛ ‵ (Rd κ d)) (slice-of κ 𝓤 H A W d) $ split ! $ move ! (2 ∷ []) $
         owned ! usize (Is usize) (uint-makes 𝓤 H A W w64) (d .at) _ (refl, wt .1 .1 .0 .fits) $ fjoin ! $ move ! (1 ∷ 0 ∷ []) $ fjoin ! $ move ! (10 ∷ 0 ∷ []) $
-        calls-told ! (fmOf 𝓤 H (W .laws) 𝓣) step.ended (step.clauses 𝓤 H A mem run) known to (λ t. t ≡ decode (d .at) (dropN (d .at) (now (d .code)))) (λ r ws. id⊢ 𝓤 _) (id⊢ 𝓤 _)
+        calls-told ! (fmOf 𝓤 H (W .laws) 𝓣) step.ended (step.clauses 𝓤 H A mem run) known to (λ t. t ≡ decode lastOpcode (d .at) (dropN (d .at) (now (d .code)))) (λ r ws. id⊢ 𝓤 _) (id⊢ 𝓤 _)
         (EL.val S.the-type S′.the-laws) (EL.tells S.the-type S′.the-laws) (and-then ! (load ! (from ! (stop !)) (look ! 4 refl)) (and-then ! (load ! (from ! (stop !)) (look ! 2 refl)) (no-more !))) (λ t e is.
         -- [the result; the tokens; what the reader owns; _3; …; _2; …; _1; …; room for _0; …]
         land ! (from ! (stop !)) (init ! 9 refl (EL.lawful S.the-type S′.the-laws 𝓤 H A W tt .typed t _ is .0)) $
