@@ -1,4 +1,3 @@
-pub mod Putting
 pub mod Plans
 pub mod Emitted
 pub mod JumpPlans

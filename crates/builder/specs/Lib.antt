@@ -1,4 +1,3 @@
-pub mod Tables
 pub mod State
 pub mod Locations
 pub mod Marks

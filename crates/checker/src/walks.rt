@@ -4,12 +4,14 @@ ghost use Prim.Native.Nat.{ℕ, suc, _+_, _*_, _<_};
 ghost use lib.ListN.{length, drop, getD};
 ghost use Rattle.code.specs.Decode.{decode};
 ghost use Rattle.code.specs.Depths.{Place};
+ghost use Rattle.code.specs.Tables.{noDepth};
 ghost use Rattle.checker.specs.Cells.{cell};
 ghost use Rattle.checker.specs.Promise.{Listed};
 ghost use Rattle.checker.specs.Inner.{stopOf, Walked, NoFault, Tells, Marked};
 use crate::Walk;
 use crate::sizes;
 use code::Step;
+use code::WORD_MAX;
 use code::decoder;
 
 // What a walk that can go no further has met.
@@ -91,7 +93,7 @@ pub fn starts_fine(code: &[u8], starts: &[u32]) -> bool
     let half = n / 2;
     let mut k = 0;
     while k < half {
-        if 65535 < start_depth(starts, k) {
+        if WORD_MAX < start_depth(starts, k) {
             return false;
         }
         let ok = is_place(code, start_offset(starts, k));
@@ -106,7 +108,7 @@ pub fn starts_fine(code: &[u8], starts: &[u32]) -> bool
 
 // Marks each place with 65,537.
 pub fn mark(code: &[u8], cells: &mut [u32])
-    requires { ⌜ (length (now cells) ≡ suc (length (now code))) × ((o : ℕ) → cell (now cells) o ≡ 65536) × NoFault (now code) ⌝ }
+    requires { ⌜ (length (now cells) ≡ suc (length (now code))) × ((o : ℕ) → cell (now cells) o ≡ noDepth) × NoFault (now code) ⌝ }
     ensures { λ _. ⌜ (length (now (cells .exit)) ≡ length (now (cells .entry))) × Marked (now (code .entry)) (now (cells .exit)) ⌝ }
 {
     let mut at = 0;

@@ -13,7 +13,7 @@ use borrow.Author.Tests.{le-leb}
 use Rattle.code.specs.Depths.{Smallest, Derived}
 use Rattle.code.proofs.Assigning.{smallest-agree}
 use Rattle.code.proofs.Counting.{counts-one}
-use Rattle.builder.specs.Tables.{codeLimit, startCells}
+use Rattle.code.specs.Tables.{codeLimit, startCells}
 use Rattle.builder.specs.declared.Builder.{Builder}
 use Rattle.checker.specs.Cells.{cell, depthIn}
 use Rattle.checker.specs.Promise.{Promise, stops, passes, builtSound, BuiltPromise}
