@@ -4,3 +4,4 @@ pub mod JumpPlans
 pub mod PatchPlans
 pub mod Naming
 pub mod Displacing
+pub mod Recorded

@@ -10,4 +10,5 @@ pub mod Regions
 pub mod Constants
 pub mod Exceptions
 pub mod Names
+pub mod Recorded
 pub mod Inner
