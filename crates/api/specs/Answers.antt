@@ -22,6 +22,7 @@ use Rattle.op.specs.declared.Shaped.the-variants as S
 use Rattle.op.specs.declared.Table.the-variants.{Text}
 use Rattle.code.specs.Bytes.{unsigned, front}
 use Rattle.code.specs.Reading.{countOf}
+use Rattle.code.specs.Tables.{codeLimit}
 use Rattle.code.specs.declared.Count.{Count}
 use Rattle.code.specs.declared.Count.the-variants as C
 
@@ -68,10 +69,6 @@ nameAnswer k room =
 unfoldable pub nameCells : ℕ → List ℕ → List ℕ
 nameCells k out = pick (known k) (pick (leb (length (nameOf k)) (length out)) (front (nameOf k) out) out) out
 
--- document 01's greatest code
-abbrev pub greatest : ℕ
-greatest = 1048576
-
 -- how many instructions a code has, or its first fault
 abbrev pub counted : Count → ℕ
 counted (C.Whole n) = n
@@ -79,4 +76,4 @@ counted (C.Stopped n r) = refused r
 
 -- 10 first
 unfoldable pub countAnswer : List ℕ → ℕ
-countAnswer code = pick (leb (length code) greatest) (counted (countOf lastOpcode code)) (refused TooLarge)
+countAnswer code = pick (leb (length code) codeLimit) (counted (countOf lastOpcode code)) (refused TooLarge)

@@ -1,7 +1,7 @@
 -- What the lookups tell: a row's number and its six numbers, a constant, a name's number.
 -- Assumes nothing.
-use mathlib.Core.List.{List, [], _∷_}
-use Prim.Native.Nat.{ℕ}
+use mathlib.Core.List.{[], _∷_}
+use Rattle.code.specs.Locations.{locationNumbers}
 use Rattle.code.specs.Lookups.{handlerCells}
 use Rattle.code.specs.declared.Constant.{Constant}
 use Rattle.code.specs.declared.Constant.the-variants as C
@@ -11,16 +11,11 @@ use Rattle.code.specs.declared.LocalName.{LocalName}
 use Rattle.code.specs.declared.LocalName.the-variants as N
 use Rattle.code.specs.declared.Located.{Located}
 use Rattle.code.specs.declared.Located.the-variants as L
-use Rattle.code.specs.declared.LocationRow.{LocationRow}
 use Rattle.api.specs.Told.{Told, numbers, nothing}
-
--- the cells of a row of the location table
-abbrev pub locationCells : LocationRow → List ℕ
-locationCells r = r .offset ∷ r .start ∷ r .end ∷ r .«focus_present» ∷ r .«focus_start» ∷ r .«focus_end» ∷ []
 
 -- a location
 abbrev pub locatedTold : Located → Told
-locatedTold (L.Row i row) = numbers (i ∷ locationCells row)
+locatedTold (L.Row i row) = numbers (i ∷ locationNumbers row)
 locatedTold L.Absent = nothing
 
 -- a handler

@@ -16,6 +16,7 @@ ghost use Rattle.api.specs.Given.{givenOf, effectGiven, afterGiven, flag
 ghost use Rattle.api.specs.Told.{Tells};
 ghost use Rattle.api.specs.Steps.{stepTold, WritesGiven};
 ghost use Rattle.api.specs.Tables.{locatedTold, handledTold, constantTold, nameTold};
+use code::CODE_LIMIT;
 use code::Constant;
 use code::Count;
 use code::Handled;
@@ -171,7 +172,7 @@ pub extern "C" fn tf_decode_assert_flags(flags: u8) -> u8
 pub extern "C" fn tf_count_instructions(code: &[u8]) -> u64
     ensures { λ r. ⌜ r ≡ countAnswer (now (code .entry)) ⌝ }
 {
-    if 1048576 < code.len() {
+    if CODE_LIMIT < code.len() {
         return answers::refused(Refusal::TooLarge);
     }
     let counted = code::reading::count(code);

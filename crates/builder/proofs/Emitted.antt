@@ -16,11 +16,12 @@ use Rattle.builder.specs.declared.Core.{Core}
 use Rattle.builder.specs.declared.Location.{Location}
 use Rattle.builder.specs.declared.Location.the-variants.{Set}
 use Rattle.builder.specs.declared.plan.Plan.{Plan}
-use Rattle.builder.specs.Tables.{locationCells, put}
-use Rattle.builder.specs.Locations.{locationRow, locationsAfter, rowsAfter}
+use Rattle.code.specs.Locations.{locationAt, pushLocation}
+use Rattle.code.specs.Tables.{put}
+use Rattle.builder.specs.Locations.{locationsAfter, rowsAfter}
 use Rattle.builder.specs.Plan.{planOf}
 use Rattle.builder.specs.Emission.{commitOf, emitCore}
-use Rattle.builder.proofs.Putting.{put-lent, length-lent}
+use Rattle.code.proofs.Putting.{put-lent, length-lent}
 
 -- what a plan comes to
 pub emitted : (c : Core) (l : Location) (k name : ℕ) (o : Operand) (ns code locs : List ℕ) (p : Plan)
@@ -39,6 +40,6 @@ written-put k o ns code at s answer part w e h =
     ap (putMid at (length code - at) code) f ∙ put-lent at (encode k o ns) code h
 
 -- a location that is set
-pub set-arm : (l : Location) (r : CodeRange) (f : Focus) (rows at : ℕ) (old new : List ℕ) → l ≡ Set r f → new ≡ put (rows * locationCells) (locationRow at r f) old
+pub set-arm : (l : Location) (r : CodeRange) (f : Focus) (rows at : ℕ) (old new : List ℕ) → l ≡ Set r f → new ≡ pushLocation rows (locationAt at r f) old
     → (rows + 1 ≡ rowsAfter l rows) × (new ≡ locationsAfter l rows at old)
 set-arm l r f rows at old new e h = (sym (ap (λ (x : Location). rowsAfter x rows) e), h ∙ sym (ap (λ (x : Location). locationsAfter x rows at old) e))

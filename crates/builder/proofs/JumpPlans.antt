@@ -28,7 +28,7 @@ use Rattle.builder.specs.declared.plan.Entered.{Entered}
 use Rattle.builder.specs.declared.plan.Entered.the-variants as E
 use Rattle.builder.specs.declared.plan.Plan.{Plan}
 use Rattle.builder.specs.declared.plan.Plan.the-variants.{Refuse, Go}
-use Rattle.builder.specs.Tables.{markCells, rowFree, rowsIn}
+use Rattle.code.specs.Tables.{markCells, room, within}
 use Rattle.builder.specs.Locations.{rowFits}
 use Rattle.builder.specs.Marks.{bits, markAt, markIn, markSound, near, targetMark}
 use Rattle.builder.specs.Plan.{Back, askSound, emittingOf, enterOf, soundOf}
@@ -83,7 +83,7 @@ module _ (c : Core) (l : Location) (k cl ll ml : ℕ) where
   pub ahead-live : (h t : ℕ) → Lives (jumpAsked c l k cl ll ml) h → takenDepthOf h k ≡ A.Depth t
       → jumpPlanOf c l k cl ll ml
       ≡ alsoRow (alsoRow (bytesOf (c .code) h k unpatched 0 t cl) (rowFits l (c .locations) ll) Locations)
-      (rowFree markCells (c .marks) ml) Marks
+      (room markCells (c .marks) ml) Marks
   unfolding jumpPlanOf
   ahead-live h t e e2 = line-live (jumpAsked c l k cl ll ml) h t e e2 refl refl refl
 
@@ -150,17 +150,17 @@ counts-true false r s e = refl
 
 module _ (c : Core) (l : Location) (k : ℕ) (t : JumpTarget) (m : Mark) (cl ll ml : ℕ) where
   abbrev sound-counts : Bool
-  sound-counts = rowsIn markCells (c .marks) ml && soundOf c cl ll
+  sound-counts = within markCells (c .marks) ml && soundOf c cl ll
 
   pub to-unsound : sound-counts ≡ false → emittingOf (toAsked c l k t m cl ll ml) ≡ Refuse Unsound
   unfolding enterOf
   to-unsound e =
       line-enters (toAsked c l k t m cl ll ml) (E.Refused Unsound)
-      (rw (counts-false (markSound (c .code) m) (rowsIn markCells (c .marks) ml) (soundOf c cl ll) e) refl)
+      (rw (counts-false (markSound (c .code) m) (within markCells (c .marks) ml) (soundOf c cl ll) e) refl)
 
   pub to-enters : (x : Entered) → sound-counts ≡ true → enterOf (markSound (c .code) m) k 0 (c .depth) ≡ x
       → enterOf (askSound (toAsked c l k t m cl ll ml)) k 0 (c .depth) ≡ x
-  to-enters x e h = rw (counts-true (markSound (c .code) m) (rowsIn markCells (c .marks) ml) (soundOf c cl ll) e) h
+  to-enters x e h = rw (counts-true (markSound (c .code) m) (within markCells (c .marks) ml) (soundOf c cl ll) e) h
 
 module _ (c : Core) (l : Location) (k : ℕ) (t : JumpTarget) (cl ll : ℕ) (marks : List ℕ) (s w : ℕ) (a : Depth) where
   by-mark : (m : Mark) → targetMark t (c .marks) marks ≡ m → LineGoes (toAsked c l k t m cl ll (length marks)) a w s

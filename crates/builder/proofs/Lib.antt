@@ -1,7 +1,7 @@
-pub mod Putting
 pub mod Plans
 pub mod Emitted
 pub mod JumpPlans
 pub mod PatchPlans
 pub mod Naming
 pub mod Displacing
+pub mod Recorded

@@ -12,7 +12,7 @@ use lib.ListN.{length, take, drop, getD, set, replicate, length-map, length-appe
 use lib.Seq.{take-suc, take-all, length-take-le, getD-append-add, getD-drop}
 use Rattle.code.specs.Bytes.{front}
 use Rattle.code.proofs.Stores.{front-more}
-use Rattle.builder.specs.Tables.{markCells}
+use Rattle.code.specs.Tables.{markCells}
 use Rattle.builder.specs.Marks.{openKind}
 use Rattle.builder.specs.Marks.{anyOpen}
 use Rattle.builder.specs.Names.{extension, nameCell}

@@ -19,7 +19,7 @@ use Rattle.builder.specs.declared.marks.Mark.{Mark}
 use Rattle.builder.specs.declared.marks.Mark.the-variants.{Absent, Open, Patched, Target}
 use Rattle.builder.specs.declared.patch.PatchPlan.{PatchPlan}
 use Rattle.builder.specs.declared.patch.PatchPlan.the-variants.{Go}
-use Rattle.builder.specs.Tables.{codeLimit, markCells, wordMax}
+use Rattle.code.specs.Tables.{codeLimit, markCells, wordMax}
 use Rattle.builder.specs.Marks.{bits, fits, markIn, markSound, markable, meets, near, revived}
 use Rattle.builder.specs.Patch.{commitPatch, markPlanOf, openPlan, patchGuard, patchJumpOf, patchPlanOf}
 use Rattle.builder.specs.Inner.{Markable}

@@ -34,7 +34,7 @@ use Rattle.builder.specs.declared.plan.Entered.{Entered}
 use Rattle.builder.specs.declared.plan.Entered.the-variants as E
 use Rattle.builder.specs.declared.plan.Plan.{Plan}
 use Rattle.builder.specs.declared.plan.Plan.the-variants.{Idle, Refuse, Go}
-use Rattle.builder.specs.Tables.{codeLimit, locationCells, markCells, rowsIn, wordMax}
+use Rattle.code.specs.Tables.{codeLimit, locationCells, markCells, within, wordMax}
 use Rattle.builder.specs.Locations.{rowFits}
 use Rattle.builder.specs.Plan.{Ahead, Asked, Back, Onward, Way, admit, aimed, arrived, askSound, behind, codeFree}
 use Rattle.builder.specs.Plan.{depthHere, emittingOf, enterOf, entered, guard, locationFree, markFree, meetsAim}
@@ -52,10 +52,10 @@ sound-true c cl ll e =
     let q = both (leb (c .code) cl) (leb (c .code) codeLimit) (p .0) in
     record { code = leb-true _ _ (q .0); limit = leb-true _ _ (q .1); rows = leb-true _ _ (p .1) }
 
-pub marks-sound : (c : Core) (cl ll ml : ℕ) → (rowsIn markCells (c .marks) ml && soundOf c cl ll) ≡ true
+pub marks-sound : (c : Core) (cl ll ml : ℕ) → (within markCells (c .marks) ml && soundOf c cl ll) ≡ true
     → (c .marks ≤ ml / markCells) × Sound c cl ll
 marks-sound c cl ll ml e =
-    let p = both (rowsIn markCells (c .marks) ml) (soundOf c cl ll) e in
+    let p = both (within markCells (c .marks) ml) (soundOf c cl ll) e in
     (leb-true _ _ (p .0), sound-true c cl ll (p .1))
 
 pub guard-go : {s w : ℕ} {a : Depth} (t : Bool) (r : Refusal) (p : Plan) → guard t r p ≡ Go a w s

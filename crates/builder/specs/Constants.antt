@@ -2,7 +2,7 @@
 -- Assumes nothing.
 use mathlib.Core.List.{List, [], _∷_}
 use Prim.Native.Nat.{ℕ, _+_}
-use lib.Dec.{leb, ltb}
+use lib.Dec.{leb}
 use lib.ListN.{length}
 use Rattle.op.specs.Choice.{pick}
 use Rattle.op.specs.declared.Refusal.the-variants.{TooManyConstants, Full, Unsound}
@@ -10,7 +10,7 @@ use Rattle.op.specs.declared.Table.the-variants.{Constants}
 use Rattle.builder.specs.declared.Added.{Added}
 use Rattle.builder.specs.declared.Added.the-variants as N
 use Rattle.builder.specs.declared.Builder.{Builder}
-use Rattle.builder.specs.Tables.{put, wordMax}
+use Rattle.code.specs.Tables.{cellRoom, cellsWithin, put, wordMax}
 use Rattle.builder.specs.State.{countsOf}
 
 -- the answer, and the constants as the call leaves them
@@ -35,9 +35,9 @@ withConstants builder constants = record {
 -- 19, "65,536 or more constants already held", 18; the value at the used end, and its index
 unfoldable pub addConstOf : (builder : Builder) (value : ℕ) (cells : List ℕ) → AddedKept
 addConstOf builder value cells =
-    pick (countsOf builder (leb (builder .constants) (length cells)))
+    pick (countsOf builder (cellsWithin (builder .constants) (length cells)))
     (pick (leb (builder .constants) wordMax)
-    (pick (ltb (builder .constants) (length cells))
+    (pick (cellRoom (builder .constants) (length cells))
     (addedKept
     (N.Made (withConstants builder (builder .constants + 1)) (builder .constants))
     (put (builder .constants) (value ∷ []) cells))

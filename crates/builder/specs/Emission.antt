@@ -19,7 +19,7 @@ use Rattle.builder.specs.declared.plan.Plan.{Plan}
 use Rattle.builder.specs.declared.plan.Plan.the-variants.{Idle, Refuse, Go}
 use Rattle.builder.specs.declared.state.CoreAnswer.{CoreAnswer}
 use Rattle.builder.specs.declared.state.CoreAnswer.the-variants as C
-use Rattle.builder.specs.Tables.{put}
+use Rattle.code.specs.Tables.{put}
 use Rattle.builder.specs.State.{answerBy}
 use Rattle.builder.specs.Locations.{locationsAfter, rowsAfter}
 use Rattle.builder.specs.Plan.{planOf}

@@ -1,17 +1,18 @@
 -- Exceptions: document 01, "Lent tables" (exceptions), refusal 10.
 -- Assumes nothing.
 use mathlib.Core.Bool.{Bool, _&&_}
-use mathlib.Core.List.{List, [], _∷_}
-use Prim.Native.Nat.{ℕ, _+_, _*_}
+use mathlib.Core.List.{List}
+use Prim.Native.Nat.{ℕ, _+_}
 use lib.Dec.{leb}
 use lib.ListN.{length}
 use Rattle.op.specs.declared.Refusal.the-variants.{TooLarge, Full, Unsound}
 use Rattle.op.specs.declared.Table.the-variants.{Exceptions}
 use Rattle.code.specs.Entries.{kindNumber}
+use Rattle.code.specs.Lookups.{handlerCells}
 use Rattle.code.specs.declared.HandlerKind.{HandlerKind}
 use Rattle.builder.specs.declared.Answer.the-variants.{Accepted}
 use Rattle.builder.specs.declared.Builder.{Builder}
-use Rattle.builder.specs.Tables.{exceptionCells, put, rowFree, rowsIn}
+use Rattle.code.specs.Tables.{exceptionCells, push, room, within}
 use Rattle.builder.specs.State.{Kept, countsOf, kept, unless}
 
 -- 10, "exception offset over 4,294,967,295"
@@ -23,7 +24,16 @@ offsetsFit start end handler = leb start offsetMax && leb end offsetMax && leb h
 
 -- "start, end, handler, depth, exception count, kind"
 abbrev pub exceptionRow : (start end handler depth count : ℕ) (kind : HandlerKind) → List ℕ
-exceptionRow start end handler depth count kind = start ∷ end ∷ handler ∷ depth ∷ count ∷ kindNumber kind ∷ []
+exceptionRow start end handler depth count kind =
+    handlerCells
+    (record {
+      start = start;
+      end = end;
+      handler = handler;
+      depth = depth;
+      count = count;
+      kind = kindNumber kind;
+    })
 
 -- the same state with so many exceptions
 abbrev pub withExceptions : (builder : Builder) (exceptions : ℕ) → Builder
@@ -40,8 +50,8 @@ withExceptions builder exceptions = record {
 unfoldable pub addExceptionOf : (builder : Builder) (start end handler depth count : ℕ) (kind : HandlerKind)
     (cells : List ℕ) → Kept
 addExceptionOf builder start end handler depth count kind cells =
-    unless (countsOf builder (rowsIn exceptionCells (builder .exceptions) (length cells))) Unsound cells
+    unless (countsOf builder (within exceptionCells (builder .exceptions) (length cells))) Unsound cells
     (unless (offsetsFit start end handler) TooLarge cells
-    (unless (rowFree exceptionCells (builder .exceptions) (length cells)) (Full Exceptions) cells
+    (unless (room exceptionCells (builder .exceptions) (length cells)) (Full Exceptions) cells
     (kept (Accepted (withExceptions builder (builder .exceptions + 1)))
-    (put (builder .exceptions * exceptionCells) (exceptionRow start end handler depth count kind) cells))))
+    (push exceptionCells (builder .exceptions) (exceptionRow start end handler depth count kind) cells))))

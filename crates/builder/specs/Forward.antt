@@ -1,7 +1,7 @@
 -- The model of `emit_jump`. It has no target yet, so 12, 13, 11 and 6 are left to `patch_jump`.
 -- Assumes nothing.
 use mathlib.Core.List.{List, []}
-use Prim.Native.Nat.{ℕ, _+_, _*_}
+use Prim.Native.Nat.{ℕ, _+_}
 use lib.ListN.{length}
 use lib.IntN.{pos}
 use Rattle.op.specs.declared.Operand.{Operand}
@@ -15,7 +15,7 @@ use Rattle.builder.specs.declared.Jumped.the-variants as J
 use Rattle.builder.specs.declared.Location.{Location}
 use Rattle.builder.specs.declared.plan.Plan.{Plan}
 use Rattle.builder.specs.declared.plan.Plan.the-variants.{Idle, Refuse, Go}
-use Rattle.builder.specs.Tables.{markCells, put}
+use Rattle.code.specs.Tables.{markCells, push, put}
 use Rattle.builder.specs.State.{withCore, withMarks}
 use Rattle.builder.specs.Locations.{locationsAfter}
 use Rattle.builder.specs.Marks.{markRow, openKind}
@@ -70,7 +70,7 @@ commitJump (Go after taken size) builder opcode code locations marks =
     (J.Made (withCore builder next) (L.Row (core .marks)))
     (put (core .code) (encode opcode unpatched []) code)
     (locationsAfter (builder .location) (core .locations) (core .code) locations)
-    (put (core .marks * markCells) (markRow openKind (core .code) taken) marks)
+    (push markCells (core .marks) (markRow openKind (core .code) taken) marks)
 
 unfoldable pub emitJumpOf : (builder : Builder) (opcode : ℕ) (code locations marks : List ℕ) → JumpOutcome
 emitJumpOf builder opcode code locations marks =

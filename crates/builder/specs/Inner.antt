@@ -24,7 +24,7 @@ use Rattle.builder.specs.declared.Location.{Location}
 use Rattle.builder.specs.declared.plan.Entered.the-variants as E
 use Rattle.builder.specs.declared.plan.Plan.{Plan}
 use Rattle.builder.specs.declared.plan.Plan.the-variants.{Idle, Refuse, Go}
-use Rattle.builder.specs.Tables.{codeLimit, locationCells, markCells, put}
+use Rattle.code.specs.Tables.{codeLimit, locationCells, markCells, push, put}
 use Rattle.builder.specs.State.{withDepth, withMarks}
 use Rattle.builder.specs.Locations.{locationsAfter, rowFits, rowsAfter}
 use Rattle.builder.specs.Marks.{markRow, openKind, patchedKind}
@@ -105,7 +105,7 @@ pub record JumpCommitted (c : Core) (l : Location) (k size : ℕ) (after : Depth
   pub state : next ≡ withMarks (coreAfter c l size after) (c .marks + 1)
   pub bytes : code′ ≡ put (c .code) (encode k unpatched []) code
   pub rows : locs′ ≡ locationsAfter l (c .locations) (c .code) locs
-  pub mark : marks′ ≡ put (c .marks * markCells) (markRow openKind (c .code) t) marks
+  pub mark : marks′ ≡ push markCells (c .marks) (markRow openKind (c .code) t) marks
 
 -- what writing a patch leaves
 pub record PatchCommitted (c : Core) (i offset w : ℕ) (after : Depth) (code marks : List ℕ)

@@ -1,4 +1,3 @@
-pub mod Tables
 pub mod State
 pub mod Locations
 pub mod Marks
@@ -11,4 +10,5 @@ pub mod Regions
 pub mod Constants
 pub mod Exceptions
 pub mod Names
+pub mod Recorded
 pub mod Inner

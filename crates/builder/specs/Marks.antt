@@ -19,8 +19,8 @@ use Rattle.builder.specs.declared.Targeted.{Targeted}
 use Rattle.builder.specs.declared.Targeted.the-variants as G
 use Rattle.builder.specs.declared.marks.Mark.{Mark}
 use Rattle.builder.specs.declared.marks.Mark.the-variants.{Absent, Open, Patched, Target}
-use Rattle.builder.specs.Tables.{codeLimit, jumpSize, markCells, put, rowFree, rowsIn, wordMax}
-use Rattle.builder.specs.State.{withCore, withMarks}
+use Rattle.code.specs.Tables.{codeWithin, jumpSize, markCells, push, room, within, wordMax}
+use Rattle.builder.specs.State.{countsOf, withCore, withMarks}
 
 -- "kind 1 open label, 2 patched label, 3 target"
 abbrev pub openKind : ℕ
@@ -78,7 +78,7 @@ markSound code (Target offset depth) = fits depth offset code
 -- 19 of a call that is lent code and marks, each of so many cells
 unfoldable pub markable : (core : Core) (code marks : ℕ) → Bool
 markable core code marks =
-    leb (core .code) code && leb (core .code) codeLimit && rowsIn markCells (core .marks) marks
+    codeWithin (core .code) code && within markCells (core .marks) marks
 
 -- "Displacement = target - opcode offset - 3, in -32,768 to 32,767"
 unfoldable pub near : (offset target : ℕ) → Bool
@@ -111,16 +111,16 @@ abbrev pub targetAt : Depth → (builder : Builder) (marks : List ℕ) → Targe
 targetAt Dead builder marks = targetOutcome (G.Made builder T.Dead) marks
 targetAt (Live here) builder marks =
     let core = builder .core in
-    pick (rowFree markCells (core .marks) (length marks))
+    pick (room markCells (core .marks) (length marks))
     (targetOutcome
     (G.Made (withCore builder (withMarks core (core .marks + 1))) (T.Row (core .marks)))
-    (put (core .marks * markCells) (markRow targetKind (core .code) here) marks))
+    (push markCells (core .marks) (markRow targetKind (core .code) here) marks))
     (targetOutcome (G.Refused (Full Marks)) marks)
 
 -- "Others, dead or live: 19, their own refusals, 18"; dead, nothing is wanted
 unfoldable pub targetOf : (builder : Builder) (marks : List ℕ) → TargetOutcome
 targetOf builder marks =
-    pick (leb (builder .core .code) codeLimit && rowsIn markCells (builder .core .marks) (length marks))
+    pick (countsOf builder (within markCells (builder .core .marks) (length marks)))
     (targetAt (builder .core .depth) builder marks)
     (targetOutcome (G.Refused Unsound) marks)
 

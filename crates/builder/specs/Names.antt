@@ -10,7 +10,7 @@ use Rattle.op.specs.declared.Refusal.the-variants.{NamesHeld, OpenLabel, Full, 
 use Rattle.op.specs.declared.Table.the-variants.{Names}
 use Rattle.builder.specs.declared.Answer.the-variants.{Accepted, Refused}
 use Rattle.builder.specs.declared.Builder.{Builder}
-use Rattle.builder.specs.Tables.{markCells, put, rowsIn}
+use Rattle.code.specs.Tables.{cellRoom, cellsWithin, markCells, put, within}
 use Rattle.builder.specs.State.{Kept, countsOf, kept, unless}
 use Rattle.builder.specs.Marks.{anyOpen}
 
@@ -32,7 +32,7 @@ nameCell name = name + 1
 -- 19, 16, 18; the names of slots 0, 1, ..
 unfoldable pub registerNamesOf : (builder : Builder) (names cells : List ℕ) → Kept
 registerNamesOf builder names cells =
-    unless (countsOf builder (leb (builder .names) (length cells))) Unsound cells
+    unless (countsOf builder (cellsWithin (builder .names) (length cells))) Unsound cells
     (unless (eqb (builder .names) 0) NamesHeld cells
     (unless (leb (length names) (length cells)) (Full Names) cells
     (kept (Accepted (withNames builder (length names))) (put 0 (map nameCell names) cells))))
@@ -48,23 +48,23 @@ named cell name = pick (eqb cell 0) (nameCell name) cell
 -- 19, 18; a slot that is held, or one past them
 unfoldable pub registerNameOf : (builder : Builder) (slot name : ℕ) (cells : List ℕ) → Kept
 registerNameOf builder slot name cells =
-    unless (countsOf builder (leb (builder .names) (length cells))) Unsound cells
+    unless (countsOf builder (cellsWithin (builder .names) (length cells))) Unsound cells
     (pick (ltb slot (builder .names))
     (kept (Accepted builder) (set cells slot (named (getD cells slot 0) name)))
-    (unless (ltb slot (length cells)) (Full Names) cells
+    (unless (cellRoom slot (length cells)) (Full Names) cells
     (kept
     (Accepted (withNames builder (slot + 1)))
     (put (builder .names) (extension (slot - builder .names) name) cells))))
 
 -- "the name that fills absent slots", in the used cells
-abbrev pub filledNames : (used name : ℕ) (cells : List ℕ) → List ℕ
-filledNames used name cells = map (λ (cell : ℕ). named cell name) (take used cells) ++ drop used cells
+abbrev pub filledNames : (held name : ℕ) (cells : List ℕ) → List ℕ
+filledNames held name cells = map (λ (cell : ℕ). named cell name) (take held cells) ++ drop held cells
 
 -- 19, 17
 unfoldable pub buildOf : (builder : Builder) (name : ℕ) (cells marks : List ℕ) → Kept
 buildOf builder name cells marks =
     unless
-    (countsOf builder (leb (builder .names) (length cells) && rowsIn markCells (builder .core .marks) (length marks)))
+    (countsOf builder (cellsWithin (builder .names) (length cells) && within markCells (builder .core .marks) (length marks)))
     Unsound cells
     (pick (anyOpen (builder .core .marks) marks)
     (kept (Refused OpenLabel) cells)

@@ -17,7 +17,7 @@ use Rattle.builder.specs.declared.marks.Mark.{Mark}
 use Rattle.builder.specs.declared.marks.Mark.the-variants.{Absent, Open, Patched, Target}
 use Rattle.builder.specs.declared.patch.PatchPlan.{PatchPlan}
 use Rattle.builder.specs.declared.patch.PatchPlan.the-variants.{Idle, Refuse, Go}
-use Rattle.builder.specs.Tables.{markCells, put}
+use Rattle.code.specs.Tables.{markCells, put}
 use Rattle.builder.specs.State.{withCore, withDepth}
 use Rattle.builder.specs.Marks.{bits, markIn, markSound, markable, meets, near, patchedKind, revived}
 

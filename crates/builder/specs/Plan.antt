@@ -28,7 +28,8 @@ use Rattle.builder.specs.declared.plan.Entered.{Entered}
 use Rattle.builder.specs.declared.plan.Entered.the-variants as E
 use Rattle.builder.specs.declared.plan.Plan.{Plan}
 use Rattle.builder.specs.declared.plan.Plan.the-variants.{Idle, Refuse, Go}
-use Rattle.builder.specs.Tables.{codeLimit, locationCells, markCells, rowFree, rowsIn, wordMax}
+use Rattle.code.specs.Locations.{locationsWithin}
+use Rattle.code.specs.Tables.{codeLimit, codeWithin, markCells, room, within, wordMax}
 use Rattle.builder.specs.Locations.{rowFits}
 use Rattle.builder.specs.Marks.{bits, markSound, near, ofTarget}
 
@@ -60,13 +61,13 @@ pub record Asked : Type 0 where
 -- 19, of the counts of code and locations
 unfoldable pub soundOf : (core : Core) (code locations : ℕ) → Bool
 soundOf core code locations =
-    leb (core .code) code && leb (core .code) codeLimit && rowsIn locationCells (core .locations) locations
+    codeWithin (core .code) code && locationsWithin (core .locations) locations
 
 -- 19, of the count of marks and of the mark that is named, where marks are lent
 abbrev pub waySound : (way : Way) (core : Core) (marks : ℕ) → Bool
 waySound Onward core marks = true
-waySound Ahead core marks = rowsIn markCells (core .marks) marks
-waySound (Back target mark) core marks = markSound (core .code) mark && rowsIn markCells (core .marks) marks
+waySound Ahead core marks = within markCells (core .marks) marks
+waySound (Back target mark) core marks = markSound (core .code) mark && within markCells (core .marks) marks
 
 abbrev pub askSound : Asked → Bool
 askSound asked =
@@ -113,7 +114,7 @@ locationFree asked = rowFits (asked .location) (asked .core .locations) (asked .
 -- 18 of the marks: "A live `emit_jump` takes one mark"
 abbrev pub markFree : (way : Way) (core : Core) (marks : ℕ) → Bool
 markFree Onward core marks = true
-markFree Ahead core marks = rowFree markCells (core .marks) marks
+markFree Ahead core marks = room markCells (core .marks) marks
 markFree (Back target mark) core marks = true
 
 -- what a plan holds

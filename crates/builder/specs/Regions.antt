@@ -2,7 +2,7 @@
 -- stores a start".
 -- Assumes nothing.
 use mathlib.Core.List.{List, [], _∷_}
-use Prim.Native.Nat.{ℕ, _+_, _*_}
+use Prim.Native.Nat.{ℕ, _+_}
 use lib.ListN.{length}
 use Rattle.op.specs.declared.Refusal.the-variants.{RegionWhileLive, Full, Unsound}
 use Rattle.op.specs.declared.Table.the-variants.{Starts}
@@ -11,7 +11,7 @@ use Rattle.builder.specs.declared.Builder.{Builder}
 use Rattle.builder.specs.declared.Depth.{Depth}
 use Rattle.builder.specs.declared.Depth.the-variants.{Dead, Live}
 use Rattle.builder.specs.declared.Location.the-variants.{Unset}
-use Rattle.builder.specs.Tables.{put, rowFree, rowsIn, startCells}
+use Rattle.code.specs.Tables.{push, put, room, within, startCells}
 use Rattle.builder.specs.State.{Kept, countsOf, kept, unless, withDepth}
 
 -- a builder with nothing in it
@@ -29,7 +29,7 @@ freshAt depth starts = record {
 unfoldable pub newOf : (told : Depth) (starts : List ℕ) → Kept
 newOf Dead starts = kept (Accepted (freshAt Dead 0)) starts
 newOf (Live depth) starts =
-    unless (rowFree startCells 0 (length starts)) (Full Starts) starts
+    unless (room startCells 0 (length starts)) (Full Starts) starts
     (kept (Accepted (freshAt (Live depth) 1)) (put 0 (0 ∷ depth ∷ []) starts))
 
 -- the same state with so many starts, live at a depth
@@ -47,13 +47,13 @@ opened builder depth starts = record {
 abbrev pub regionAt : (here : Depth) (builder : Builder) (depth : ℕ) (starts : List ℕ) → Kept
 regionAt (Live here) builder depth starts = kept (Refused RegionWhileLive) starts
 regionAt Dead builder depth starts =
-    unless (rowFree startCells (builder .starts) (length starts)) (Full Starts) starts
+    unless (room startCells (builder .starts) (length starts)) (Full Starts) starts
     (kept
     (Accepted (opened builder depth (builder .starts + 1)))
-    (put (builder .starts * startCells) (builder .core .code ∷ depth ∷ []) starts))
+    (push startCells (builder .starts) (builder .core .code ∷ depth ∷ []) starts))
 
 -- "`new_code_region` stores a start"
 unfoldable pub regionOf : (builder : Builder) (depth : ℕ) (starts : List ℕ) → Kept
 regionOf builder depth starts =
-    unless (countsOf builder (rowsIn startCells (builder .starts) (length starts))) Unsound starts
+    unless (countsOf builder (within startCells (builder .starts) (length starts))) Unsound starts
     (regionAt (builder .core .depth) builder depth starts)

@@ -4,7 +4,6 @@
 use mathlib.Core.Bool.{_&&_, Bool, true, false}
 use mathlib.Core.List.{List}
 use Prim.Native.Nat.{ℕ}
-use lib.Dec.{leb}
 use Rattle.op.specs.Choice.{pick}
 use Rattle.op.specs.declared.Refusal.{Refusal}
 use Rattle.builder.specs.declared.Answer.{Answer}
@@ -15,7 +14,7 @@ use Rattle.builder.specs.declared.Depth.{Depth}
 use Rattle.builder.specs.declared.Depth.the-variants.{Dead, Live}
 use Rattle.builder.specs.declared.state.CoreAnswer.{CoreAnswer}
 use Rattle.builder.specs.declared.state.CoreAnswer.the-variants as C
-use Rattle.builder.specs.Tables.{codeLimit}
+use Rattle.code.specs.Tables.{withinLimit}
 
 -- the same state with another core
 abbrev pub withCore : (builder : Builder) (core : Core) → Builder
@@ -60,4 +59,4 @@ unless test refusal cells on = pick test on (kept (Refused refusal) cells)
 
 -- 19 of a call that is lent no code: "the code count 1,048,576", and its own count
 abbrev pub countsOf : (builder : Builder) (own : Bool) → Bool
-countsOf builder own = leb (builder .core .code) codeLimit && own
+countsOf builder own = withinLimit (builder .core .code) && own

@@ -1,6 +1,6 @@
 // The one way in which instructions are emitted: decide, then commit.
 ghost use Prim.Native.Nat.{_≤_, _+_};
-ghost use Rattle.builder.specs.Tables.{codeLimit};
+ghost use Rattle.code.specs.Tables.{codeLimit};
 ghost use Rattle.builder.specs.Emission.{coreOutcome, coreWith, emitCore, emitNamed, emitOf, outcome};
 ghost use Rattle.builder.specs.Inner.{Committed, Goes};
 ghost use lib.ListN.{length};

@@ -26,24 +26,6 @@ mod regions;
 mod state;
 mod tables;
 
-// How much of the lent code can be used.
-pub const CODE_LIMIT: usize = 1048576;
-
-// How many cells a row has.
-pub const LOCATION_CELLS: usize = 6;
-
-pub const EXCEPTION_CELLS: usize = 6;
-
-const MARK_CELLS: usize = 4;
-
-pub const START_CELLS: usize = 2;
-
-// The greatest depth, name and constant index.
-const WORD_MAX: u32 = 65535;
-
-// The bytes of a jump.
-const JUMP_SIZE: usize = 3;
-
 // The operand stack's depth before the next instruction; none in dead code.
 pub enum Depth {
     Dead,

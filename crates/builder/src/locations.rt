@@ -1,16 +1,17 @@
 // Source locations: the row that goes with an instruction.
 ghost use Prim.Native.Nat.{_≤_};
-ghost use Rattle.builder.specs.Locations.{rowFits, locationRow, locationsAfter, rowsAfter};
-ghost use Rattle.builder.specs.Tables.{codeLimit};
+ghost use Rattle.builder.specs.Locations.{rowFits, locationsAfter, rowsAfter};
+ghost use Rattle.code.specs.Locations.{locationAt, locationNumbers};
+ghost use Rattle.code.specs.Tables.{codeLimit, locationCells};
 ghost use Rattle.code.specs.Bytes.{front};
 ghost use lib.ListN.{length};
 ghost use mathlib.Core.Bool.{true};
 ghost use mathlib.Core.Path.{_≡_};
-use crate::LOCATION_CELLS;
 use crate::Location;
 use crate::tables;
 use code::CodeRange;
 use code::Focus;
+use code::LOCATION_CELLS;
 
 // Whether a location that is set has room for its row.
 pub fn row_fits(location: Location, rows: usize, ll: usize) -> bool
@@ -24,8 +25,8 @@ pub fn row_fits(location: Location, rows: usize, ll: usize) -> bool
 
 // A location's row at the front.
 fn write_row(out: &mut [u32], offset: u32, range: CodeRange, focus: Focus)
-    requires { ⌜ 6 ≤ length (now out) ⌝ }
-    ensures { λ r. ⌜ now (out .exit) ≡ front (locationRow offset range focus) (now (out .entry)) ⌝ }
+    requires { ⌜ locationCells ≤ length (now out) ⌝ }
+    ensures { λ r. ⌜ now (out .exit) ≡ front (locationNumbers (locationAt offset range focus)) (now (out .entry)) ⌝ }
 {
     match focus {
         Focus::Absent => tables::row6(out, offset, range.start, range.end, 0, 0, 0),

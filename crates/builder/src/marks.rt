@@ -2,20 +2,20 @@
 ghost use Prim.Native.Nat.{_≤_, _+_, _/_};
 ghost use Rattle.builder.specs.Marks.{targetOutcome, targetAt, anyOpen, markOf, markIn, fits, markSound};
 ghost use Rattle.builder.specs.Marks.{markable, near, bits, meets, revived};
-ghost use Rattle.builder.specs.Tables.{codeLimit, markCells, jumpSize};
+ghost use Rattle.code.specs.Tables.{codeLimit, markCells, jumpSize};
 ghost use lib.ListN.{length};
 ghost use mathlib.Core.Path.{_≡_};
 use crate::Builder;
-use crate::CODE_LIMIT;
 use crate::Core;
 use crate::Depth;
-use crate::JUMP_SIZE;
 use crate::JumpTarget;
-use crate::MARK_CELLS;
 use crate::Targeted;
-use crate::WORD_MAX;
 use crate::state;
 use crate::tables;
+use code::CODE_LIMIT;
+use code::JUMP_SIZE;
+use code::MARK_CELLS;
+use code::WORD_MAX;
 use op::Refusal;
 use op::Table;
 

@@ -2,17 +2,17 @@
 ghost use mathlib.Core.Path.{_≡_};
 ghost use Prim.Native.Nat.{_+_, _≤_, _<_, _/_};
 ghost use lib.ListN.{length};
-ghost use Rattle.builder.specs.Tables.{codeLimit, jumpSize, markCells, wordMax};
+ghost use Rattle.code.specs.Tables.{codeLimit, jumpSize, markCells, wordMax};
 ghost use Rattle.builder.specs.Marks.{markSound};
 ghost use Rattle.builder.specs.Patch.{markPlanOf, openPlan};
 ghost use Rattle.builder.specs.Inner.{PatchCommitted};
 ghost use mathlib.Core.Bool.{true};
 use crate::Core;
 use crate::Depth;
-use crate::MARK_CELLS;
 use crate::marks;
 use crate::marks::Mark;
 use crate::tables;
+use code::MARK_CELLS;
 use op::Refusal;
 
 // What a patch is to do: nothing, of a label that was made in dead code; refuse; or write.

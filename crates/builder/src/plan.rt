@@ -1,19 +1,19 @@
 // Deciding an emission, on numbers alone, in the order of document 01's line "Emitting calls".
 ghost use Prim.Native.Nat.{_≤_};
-ghost use Rattle.builder.specs.Tables.{codeLimit, markCells, rowsIn};
+ghost use Rattle.code.specs.Tables.{codeLimit, markCells, within};
 ghost use Rattle.builder.specs.Locations.{rowFits};
 ghost use Rattle.builder.specs.Plan.{behind, enterOf, planOf, soundOf};
 ghost use Rattle.builder.specs.Inner.{alsoRow, bytesOf, roomOf};
 ghost use mathlib.Core.Bool.{_&&_};
 ghost use mathlib.Core.Path.{_≡_};
-use crate::CODE_LIMIT;
 use crate::Core;
 use crate::Depth;
-use crate::LOCATION_CELLS;
 use crate::Location;
-use crate::MARK_CELLS;
-use crate::WORD_MAX;
 use crate::locations;
+use code::CODE_LIMIT;
+use code::LOCATION_CELLS;
+use code::MARK_CELLS;
+use code::WORD_MAX;
 use code::decoder;
 use op::After;
 use op::Operand;
@@ -55,7 +55,7 @@ pub fn sound(core: Core, cl: usize, ll: usize) -> bool
 
 // The same, and the count of marks within the lent marks.
 pub fn sound_with_marks(core: Core, cl: usize, ll: usize, ml: usize) -> bool
-    ensures { λ r. ⌜ r ≡ (rowsIn markCells (core .marks) ml && soundOf core cl ll) ⌝ }
+    ensures { λ r. ⌜ r ≡ (within markCells (core .marks) ml && soundOf core cl ll) ⌝ }
 {
     if ml / MARK_CELLS < core.marks {
         return false;

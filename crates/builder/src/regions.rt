@@ -1,7 +1,7 @@
 // What `new` and `new_code_region` share: the state and the row of a start.
 ghost use mathlib.Core.Path.{_≡_};
 ghost use Prim.Native.Nat.{_≤_};
-ghost use Rattle.builder.specs.Tables.{codeLimit};
+ghost use Rattle.code.specs.Tables.{codeLimit};
 ghost use Rattle.builder.specs.State.{kept};
 ghost use Rattle.builder.specs.Regions.{freshAt, opened, regionAt};
 use crate::Answer;
@@ -9,8 +9,8 @@ use crate::Builder;
 use crate::Core;
 use crate::Depth;
 use crate::Location;
-use crate::START_CELLS;
 use crate::tables;
+use code::START_CELLS;
 use op::Refusal;
 use op::Table;
 

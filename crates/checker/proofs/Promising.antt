@@ -20,7 +20,7 @@ use Rattle.code.proofs.Assigning.{smallest-agree}
 use Rattle.code.proofs.Counting.{counts-one}
 use Rattle.code.proofs.Places.{fault-one}
 use Rattle.builder.specs.declared.Builder.{Builder}
-use Rattle.builder.specs.Tables.{codeLimit, startCells, rowsIn}
+use Rattle.code.specs.Tables.{codeLimit, startCells, within}
 use Rattle.builder.proofs.Plans.{both}
 use Rattle.checker.specs.declared.Checked.{Checked}
 use Rattle.checker.specs.declared.Checked.the-variants.{Accepted, Refused}
@@ -92,7 +92,7 @@ part-size d n l = length-take-le (n + 1) d (omega arith) ∙ add-one n
 pub built-within : (b : Builder) (cl sl : ℕ) → builtSound b cl sl ≡ true → (b .core .code ≤ cl) × (b .starts * startCells ≤ sl)
 unfolding builtSound
 built-within b cl sl e =
-    let p = both (leb (b .core .code) cl && leb (b .core .code) codeLimit) (rowsIn startCells (b .starts) sl) e in
+    let p = both (leb (b .core .code) cl && leb (b .core .code) codeLimit) (within startCells (b .starts) sl) e in
     let q = both (leb (b .core .code) cl) (leb (b .core .code) codeLimit) (p .0) in
     let rows = leb-true (b .starts) (sl / startCells) (p .1) in
     (leb-true _ _ (q .0), omega arith)

@@ -7,10 +7,11 @@ use lib.Dec.{leb}
 use lib.ListN.{getD}
 use Rattle.op.specs.Choice.{pick}
 use Rattle.op.specs.Depths.{deepest}
+use Rattle.code.specs.Tables.{noDepth}
 
 -- the number in the cell of an offset
 abbrev pub cell : List ℕ → ℕ → ℕ
-cell c o = getD c o 65536
+cell c o = getD c o noDepth
 
 -- the cells as an assignment
 unfoldable pub depthIn : List ℕ → ℕ → Option ℕ

@@ -17,6 +17,7 @@ use Rattle.code.specs.declared.Step.{Step}
 use Rattle.code.specs.declared.Step.the-variants.{Instr, End}
 use Rattle.code.specs.declared.Step.the-variants as S
 use Rattle.code.specs.Depths.{Stands, Place, Faulty, Begins, Leads, Falls, Jumps, Kept, Impossible, Derived}
+use Rattle.code.specs.Tables.{noDepth, wordMax}
 use Rattle.checker.specs.declared.Checked.{Checked}
 use Rattle.checker.specs.declared.Checked.the-variants.{Accepted, Refused}
 use Rattle.checker.specs.declared.Walk.{Walk}
@@ -27,8 +28,8 @@ use Rattle.checker.specs.Promise.{Solution}
 -- cells in work: 65,536 at what is no place, 65,537 at a place without a depth, and every depth is derived
 pub record Sound (last : ℕ) (s st c : List ℕ) : Type 0 where
   pub small : (o : ℕ) → cell c o ≤ 65537
-  pub marked : (o : ℕ) → Place last s o → cell c o ≡ 65536 → ⊥
-  pub place : (o : ℕ) → (cell c o ≡ 65536 → ⊥) → Place last s o
+  pub marked : (o : ℕ) → Place last s o → cell c o ≡ noDepth → ⊥
+  pub place : (o : ℕ) → (cell c o ≡ noDepth → ⊥) → Place last s o
   pub derived : (o d : ℕ) → depthIn c o ≡ some d → Derived last s st o d
 
 -- some work answered r: 0 or 1, and with 1 there are more depths; 2 refused
@@ -59,9 +60,9 @@ KeptAt last s c o = (f : Flow) (d : ℕ) → depthIn c o ≡ some d → Stands l
 
 -- a depth after a change: 65,536 where it is out of range
 pub record Landed (d : ℕ) (c : Change) (r : ℕ) : Type 0 where
-  pub small : r ≤ 65536
-  pub leads : r ≤ 65535 → Leads d c r
-  pub out : 65535 < r → (e : ℕ) → Leads d c e → ⊥
+  pub small : r ≤ noDepth
+  pub leads : r ≤ wordMax → Leads d c r
+  pub out : wordMax < r → (e : ℕ) → Leads d c e → ⊥
 
 -- one cell gets a depth that something asks of it
 pub record Visited (c c′ : List ℕ) (o d r : ℕ) : Type 0 where
@@ -139,7 +140,7 @@ pub record Tells (r : Bool) (P : Type 0) : Type 0 where
 -- the cells where the work begins
 pub record Marked (last : ℕ) (s c : List ℕ) : Type 0 where
   pub place : (o : ℕ) → Place last s o → cell c o ≡ 65537
-  pub only : (o : ℕ) → (cell c o ≡ 65536) ⊎ ((cell c o ≡ 65537) × Place last s o)
+  pub only : (o : ℕ) → (cell c o ≡ noDepth) ⊎ ((cell c o ≡ 65537) × Place last s o)
 
 -- the starts have their depths
 pub record Placed (st c c′ : List ℕ) (r : Bool) : Type 0 where
@@ -151,17 +152,17 @@ pub record Placed (st c c′ : List ℕ) (r : Bool) : Type 0 where
 -- one cell is made 65,536 if it holds no depth
 pub record Tidied (c c′ : List ℕ) (i r : ℕ) : Type 0 where
   pub range : r ≤ 1
-  pub one : r ≡ 1 → (c′ ≡ c) × (cell c i ≤ 65535)
-  pub zero : r ≡ 0 → (c′ ≡ set c i 65536) × (65535 < cell c i)
+  pub one : r ≡ 1 → (c′ ≡ c) × (cell c i ≤ wordMax)
+  pub zero : r ≡ 0 → (c′ ≡ set c i noDepth) × (wordMax < cell c i)
 
 -- the cells below i are
 pub record Cleaned (c c′ : List ℕ) (i : ℕ) : Type 0 where
   pub size : length c′ ≡ length c
-  pub has : (o : ℕ) → o < i → cell c o ≤ 65535 → cell c′ o ≡ cell c o
-  pub hasnt : (o : ℕ) → o < i → 65535 < cell c o → cell c′ o ≡ 65536
+  pub has : (o : ℕ) → o < i → cell c o ≤ wordMax → cell c′ o ≡ cell c o
+  pub hasnt : (o : ℕ) → o < i → wordMax < cell c o → cell c′ o ≡ noDepth
   pub above : (o : ℕ) → i ≤ o → cell c′ o ≡ cell c o
 
 -- the whole work, on cells of just the code's length and one
 abbrev pub Outcome : ℕ → List ℕ → List ℕ → List ℕ → Checked → Type 0
 Outcome last s st c (Accepted k) = Solution last s st c k
-Outcome last s st c (Refused q) = (q ≡ NoDepths) × Impossible last s st × (c ≡ replicate (suc (length s)) 65536)
+Outcome last s st c (Refused q) = (q ≡ NoDepths) × Impossible last s st × (c ≡ replicate (suc (length s)) noDepth)

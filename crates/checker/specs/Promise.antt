@@ -6,7 +6,6 @@ use mathlib.Core.Bool.{Bool, false, _&&_}
 use mathlib.Core.List.{List, _++_}
 use mathlib.Core.Option.{some}
 use Prim.Native.Nat.{ℕ, suc, _+_, _*_, _%_, _≤_, _<_}
-use lib.Dec.{leb}
 use lib.ListN.{length, getD, take, drop, replicate}
 use Rattle.op.specs.Depths.{deepest}
 use Rattle.op.specs.Opcodes.{lastOpcode}
@@ -14,14 +13,14 @@ use Rattle.op.specs.declared.Refusal.{Refusal}
 use Rattle.op.specs.declared.Refusal.the-variants.{TooLarge, Unsound, ShortDepths, BadStarts, NoDepths}
 use Rattle.code.specs.Depths.{Place, Faulty, Smallest, Impossible, Derived, Counts}
 use Rattle.builder.specs.declared.Builder.{Builder}
-use Rattle.builder.specs.Tables.{codeLimit, startCells, rowsIn}
+use Rattle.code.specs.Tables.{codeLimit, codeWithin, noDepth, startCells, used, within}
 use Rattle.checker.specs.declared.Checked.{Checked}
 use Rattle.checker.specs.declared.Checked.the-variants.{Accepted, Refused}
 use Rattle.checker.specs.Cells.{cell, depthIn}
 
 -- 10, checked code too large
 abbrev pub TooLong : List ℕ → Refusal → Type 0
-TooLong s q = (q ≡ TooLarge) × (1048576 < length s)
+TooLong s q = (q ≡ TooLarge) × (codeLimit < length s)
 
 -- 21, depth slice too short
 abbrev pub NoRoom : List ℕ → List ℕ → Refusal → Type 0
@@ -45,7 +44,7 @@ Unsolved last s st q = (q ≡ NoDepths) × Impossible last s st
 pub record Solution (last : ℕ) (s st c : List ℕ) (k : ℕ) : Type 0 where
   pub size : length c ≡ suc (length s)
   pub smallest : Smallest last s st (depthIn c)
-  pub others : (o : ℕ) → cell c o ≤ 65536
+  pub others : (o : ℕ) → cell c o ≤ noDepth
   pub derived : (o d : ℕ) → depthIn c o ≡ some d → Derived last s st o d
   pub count : Counts last s (depthIn c) k
 
@@ -59,7 +58,7 @@ Refuses d d′ r q = (r ≡ Refused q) × (d′ ≡ d)
 
 -- "On 23 those cells all hold 65,536"
 abbrev pub Blanks : List ℕ → List ℕ → List ℕ → Checked → Refusal → Type 0
-Blanks s d d′ r q = (r ≡ Refused q) × Became s d d′ (replicate (suc (length s)) 65536)
+Blanks s d d′ r q = (r ≡ Refused q) × Became s d d′ (replicate (suc (length s)) noDepth)
 
 -- accepted, with a solution
 pub record Accepts (last : ℕ) (s st d d′ : List ℕ) (r : Checked) : Type 0 where
@@ -86,7 +85,7 @@ Promise last s st d d′ r =
 
 -- 19 of a builder whose code and starts are lent, so many cells each
 unfoldable pub builtSound : Builder → ℕ → ℕ → Bool
-builtSound b cl sl = leb (b .core .code) cl && leb (b .core .code) codeLimit && rowsIn startCells (b .starts) sl
+builtSound b cl sl = codeWithin (b .core .code) cl && within startCells (b .starts) sl
 
 -- 19, "a count exceeds its lent table, the code count 1,048,576"
 abbrev pub Miscounted : Builder → List ℕ → List ℕ → Refusal → Type 0
@@ -96,4 +95,4 @@ Miscounted b s st q = (q ≡ Unsound) × (builtSound b (length s) (length st) �
 unfoldable pub BuiltPromise : Builder → List ℕ → List ℕ → List ℕ → List ℕ → Checked → Type 0
 BuiltPromise b s st d d′ r =
     Unless (Miscounted b s st) (Refuses d d′ r)
-    (Promise lastOpcode (take (b .core .code) s) (take (b .starts * startCells) st) d d′ r)
+    (Promise lastOpcode (take (b .core .code) s) (used startCells (b .starts) st) d d′ r)

@@ -4,6 +4,8 @@ ghost use Prim.Native.Nat.{_-_, _<_, _≤_};
 ghost use lib.ListN.{length, replicate, take};
 ghost use Rattle.checker.specs.Cells.{held};
 ghost use Rattle.checker.specs.Inner.{Tidied, Cleaned};
+use code::NO_DEPTH;
+use code::WORD_MAX;
 
 // Each cell gets one value.
 pub fn fill(cells: &mut [u32], v: u32)
@@ -22,10 +24,10 @@ fn tidy(cells: &mut [u32], i: usize) -> usize
     ensures { λ r. ⌜ Tidied (now (cells .entry)) (now (cells .exit)) i r ⌝ }
 {
     let was = cells[i];
-    if was <= 65535 {
+    if was <= WORD_MAX {
         return 1;
     }
-    cells[i] = 65536;
+    cells[i] = NO_DEPTH;
     0
 }
 

@@ -3,8 +3,8 @@ ghost use mathlib.Core.Path.{_≡_};
 ghost use Rattle.op.specs.Opcodes.{lastOpcode};
 ghost use Rattle.checker.specs.Promise.{Promise, builtSound, BuiltPromise};
 use builder::Builder;
-use builder::CODE_LIMIT;
-use builder::START_CELLS;
+use code::CODE_LIMIT;
+use code::START_CELLS;
 use op::Refusal;
 
 mod cells;
@@ -33,7 +33,7 @@ pub enum Walk {
 pub fn check(code: &[u8], starts: &[u32], depths: &mut [u32]) -> Checked
     ensures { λ r. ⌜ Promise lastOpcode (now (code .entry)) (now (starts .entry)) (now (depths .entry)) (now (depths .exit)) r ⌝ }
 {
-    if 1048576 < code.len() {
+    if CODE_LIMIT < code.len() {
         return Checked::Refused(Refusal::TooLarge);
     }
     if depths.len() <= code.len() {

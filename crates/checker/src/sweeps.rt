@@ -3,19 +3,21 @@ ghost use mathlib.Core.Path.{_≡_};
 ghost use Prim.Native.Nat.{suc, _<_, _≤_};
 ghost use lib.ListN.{length};
 ghost use Rattle.op.specs.Opcodes.{lastOpcode};
+ghost use Rattle.code.specs.Tables.{codeLimit};
 ghost use Rattle.checker.specs.Inner.{Relaxed, Swept, Settled};
 use crate::visits;
 use code::Flowing;
+use code::WORD_MAX;
 use code::decoder;
 
 // What the instruction at an offset asks of the places it goes to. Answers 1 only where a place at or before it got a depth: what
 // lies ahead is still to come in the same sweep.
 fn relax(code: &[u8], cells: &mut [u32], at: usize) -> u8
-    requires { ⌜ (length (now code) ≤ 1048576) × (at < length (now code)) × (length (now cells) ≡ suc (length (now code))) ⌝ }
+    requires { ⌜ (length (now code) ≤ codeLimit) × (at < length (now code)) × (length (now cells) ≡ suc (length (now code))) ⌝ }
     ensures { λ r. ⌜ Relaxed lastOpcode (now (code .entry)) (now (cells .entry)) (now (cells .exit)) at r ⌝ }
 {
     let d = cells[at];
-    if 65535 < d {
+    if WORD_MAX < d {
         return 0;
     }
     let got = decoder::flow_at(code, at);
@@ -31,7 +33,7 @@ fn relax(code: &[u8], cells: &mut [u32], at: usize) -> u8
 
 // The same of every offset in turn; what is no place has no depth.
 fn sweep(code: &[u8], cells: &mut [u32]) -> u8
-    requires { ⌜ (length (now code) ≤ 1048576) × (length (now cells) ≡ suc (length (now code))) ⌝ }
+    requires { ⌜ (length (now code) ≤ codeLimit) × (length (now cells) ≡ suc (length (now code))) ⌝ }
     ensures { λ r. ⌜ Swept lastOpcode (now (code .entry)) (now (cells .entry)) (now (cells .exit)) (length (now (code .entry))) r ⌝ }
 {
     let mut moved: u8 = 0;
@@ -51,7 +53,7 @@ fn sweep(code: &[u8], cells: &mut [u32]) -> u8
 
 // Whether the sweeps come to an end with no conflict.
 pub fn settle(code: &[u8], cells: &mut [u32]) -> bool
-    requires { ⌜ (length (now code) ≤ 1048576) × (length (now cells) ≡ suc (length (now code))) ⌝ }
+    requires { ⌜ (length (now code) ≤ codeLimit) × (length (now cells) ≡ suc (length (now code))) ⌝ }
     ensures { λ r. ⌜ Settled lastOpcode (now (code .entry)) (now (cells .entry)) (now (cells .exit)) r ⌝ }
 {
     loop {

@@ -2,10 +2,13 @@
 // 2 where there can be no assignment; `hop` and `leap` answer 0 too where the cell lies ahead.
 ghost use mathlib.Core.Path.{_≡_};
 ghost use Prim.Native.Nat.{_+_, _<_, _≤_, _^_};
+ghost use Rattle.code.specs.Tables.{wordMax};
 ghost use Rattle.checker.specs.Inner.{Touched, Ahead, Landed, Visited, Arrived, Fell, Jumped};
 use code::Change;
 use code::Flow;
 use code::Goal;
+use code::NO_DEPTH;
+use code::WORD_MAX;
 
 // The depth after a change, 65,536 where it leaves the range.
 fn land(d: u32, change: Change) -> u32
@@ -14,18 +17,18 @@ fn land(d: u32, change: Change) -> u32
     let have = (d as u64) + (change.up as u64);
     let need = change.down as u64;
     if have < need {
-        return 65536;
+        return NO_DEPTH;
     }
     let t = have - need;
-    if 65535 < t {
-        return 65536;
+    if (WORD_MAX as u64) < t {
+        return NO_DEPTH;
     }
     t as u32
 }
 
 // The cell at `o` gets the depth d, if it is a place without one.
 pub fn visit(cells: &mut [u32], o: usize, d: u32) -> u8
-    requires { ⌜ d ≤ 65535 ⌝ }
+    requires { ⌜ d ≤ wordMax ⌝ }
     ensures { λ r. ⌜ Visited (now (cells .entry)) (now (cells .exit)) o d r ⌝ }
 {
     if cells.len() <= o {
@@ -47,7 +50,7 @@ fn arrive(cells: &mut [u32], o: usize, d: u32, change: Change) -> u8
     ensures { λ r. ⌜ Arrived (now (cells .entry)) (now (cells .exit)) o d change r × Touched (now (cells .entry)) (now (cells .exit)) o r ⌝ }
 {
     let t = land(d, change);
-    if 65535 < t {
+    if WORD_MAX < t {
         return 2;
     }
     visit(cells, o, t)
@@ -65,7 +68,7 @@ pub fn fall(cells: &mut [u32], at: usize, d: u32, f: Flow) -> u8
         return arrive(cells, at + size, d, net);
     }
     let behind = land(d, net);
-    if 65535 < behind {
+    if WORD_MAX < behind {
         return 2;
     }
     0

@@ -5,12 +5,14 @@ ghost use lib.ListN.{length, drop, getD};
 ghost use Rattle.op.specs.Opcodes.{lastOpcode};
 ghost use Rattle.code.specs.Decode.{decode};
 ghost use Rattle.code.specs.Depths.{Place};
+ghost use Rattle.code.specs.Tables.{noDepth};
 ghost use Rattle.checker.specs.Cells.{cell};
 ghost use Rattle.checker.specs.Promise.{Listed};
 ghost use Rattle.checker.specs.Inner.{stopOf, Walked, NoFault, Tells, Marked};
 use crate::Walk;
 use crate::sizes;
 use code::Step;
+use code::WORD_MAX;
 use code::decoder;
 
 // What a walk that can go no further has met.
@@ -92,7 +94,7 @@ pub fn starts_fine(code: &[u8], starts: &[u32]) -> bool
     let half = n / 2;
     let mut k = 0;
     while k < half {
-        if 65535 < start_depth(starts, k) {
+        if WORD_MAX < start_depth(starts, k) {
             return false;
         }
         let ok = is_place(code, start_offset(starts, k));
@@ -107,7 +109,7 @@ pub fn starts_fine(code: &[u8], starts: &[u32]) -> bool
 
 // Marks each place with 65,537.
 pub fn mark(code: &[u8], cells: &mut [u32])
-    requires { ⌜ (length (now cells) ≡ suc (length (now code))) × ((o : ℕ) → cell (now cells) o ≡ 65536) × NoFault lastOpcode (now code) ⌝ }
+    requires { ⌜ (length (now cells) ≡ suc (length (now code))) × ((o : ℕ) → cell (now cells) o ≡ noDepth) × NoFault lastOpcode (now code) ⌝ }
     ensures { λ _. ⌜ (length (now (cells .exit)) ≡ length (now (cells .entry))) × Marked lastOpcode (now (code .entry)) (now (cells .exit)) ⌝ }
 {
     let mut at = 0;

@@ -12,7 +12,8 @@ use Rattle.op.specs.Choice.{pick}
 use Rattle.code.proofs.First.{first-same}
 use Rattle.code.proofs.Rows.{count-next, cell-next}
 use Rattle.code.specs.Entries.{contains, findFrom, entryRow, tableOf, flatAnswer}
-use Rattle.code.specs.Lookups.{handlerWidth, handlerRow, handlerCells, coversOf, covering, firstCovering, handlerOf}
+use Rattle.code.specs.Tables.{exceptionCells}
+use Rattle.code.specs.Lookups.{handlerRow, handlerCells, coversOf, covering, firstCovering, handlerOf}
 use Rattle.code.specs.Rows.{rowCount, cell, first}
 use Rattle.code.specs.declared.ExceptionEntry.{ExceptionEntry}
 use Rattle.code.specs.declared.Found.the-variants as F
@@ -23,7 +24,7 @@ use Rattle.code.specs.declared.HandlerRow.{HandlerRow}
 -- the flat lookup's answer, its rows numbered from j
 abbrev handlerFrom : List ℕ → ℕ → ℕ → Handled
 handlerFrom cells x j =
-    pick (ltb (firstCovering cells x) (rowCount handlerWidth cells))
+    pick (ltb (firstCovering cells x) (rowCount exceptionCells cells))
     (H.Row (j + firstCovering cells x) (handlerRow cells (firstCovering cells x)))
     H.Absent
 
@@ -31,13 +32,13 @@ module _ (e : ExceptionEntry) (cells : List ℕ) (x : ℕ) where
   abbrev more : List ℕ
   more = handlerCells (entryRow e) ++ cells
 
-  count-more : rowCount handlerWidth more ≡ suc (rowCount handlerWidth cells)
-  count-more = count-next handlerWidth (handlerCells (entryRow e)) cells (omega arith) refl
+  count-more : rowCount exceptionCells more ≡ suc (rowCount exceptionCells cells)
+  count-more = count-next exceptionCells (handlerCells (entryRow e)) cells (omega arith) refl
 
   row-more : (i : ℕ) → handlerRow more (suc i) ≡ handlerRow cells i
   row-more i =
-      let next : (k : ℕ) → cell handlerWidth more (suc i) k ≡ cell handlerWidth cells i k
-      = λ k. cell-next handlerWidth (handlerCells (entryRow e)) cells i k refl in
+      let next : (k : ℕ) → cell exceptionCells more (suc i) k ≡ cell exceptionCells cells i k
+      = λ k. cell-next exceptionCells (handlerCells (entryRow e)) cells i k refl in
       λ d.
       record {
         start = next 0 d;
@@ -57,12 +58,12 @@ module _ (e : ExceptionEntry) (cells : List ℕ) (x : ℕ) where
   first-more =
       rw count-more
       (ap (λ (n : ℕ). pick (contains e x) zero (suc n))
-      (first-same (λ i. covering more x (suc i)) (covering cells x) (rowCount handlerWidth cells) covering-more))
+      (first-same (λ i. covering more x (suc i)) (covering cells x) (rowCount exceptionCells cells) covering-more))
 
   -- that entry is found, or what the rest has
   from-more : (j : ℕ) (b : Bool) → contains e x ≡ b → handlerFrom more x j ≡ pick b (H.Row j (entryRow e)) (handlerFrom cells x (j + 1))
   from-more j true hit =
-      rw (first-more, count-more, hit, lt-ltb 0 (suc (rowCount handlerWidth cells)) (omega arith), add-zero j)
+      rw (first-more, count-more, hit, lt-ltb 0 (suc (rowCount exceptionCells cells)) (omega arith), add-zero j)
   from-more j false miss =
       let e : j + suc (firstCovering cells x) ≡ j + 1 + firstCovering cells x = omega arith in
       rw (first-more, count-more, miss, leb·suc-suc, row-more, e)
@@ -89,6 +90,6 @@ records-flat es x = ap (λ (i : ℕ). answerAt i) (sym (zero-add (firstCovering 
 
     answerAt : ℕ → Handled
     answerAt i =
-        pick (ltb (firstCovering cells x) (rowCount handlerWidth cells))
+        pick (ltb (firstCovering cells x) (rowCount exceptionCells cells))
         (H.Row i (handlerRow cells (firstCovering cells x)))
         H.Absent

@@ -9,6 +9,8 @@ pub mod Flows
 pub mod Counted
 pub mod First
 pub mod Rows
+pub mod Putting
+pub mod Recorded
 pub mod Rising
 pub mod Joined
 pub mod Places

@@ -7,14 +7,10 @@ use borrow.Author.Tests.{ltb-true, ltb-false, le-ltb}
 use mathlib.Core.List.{List}
 use mathlib.Core.Path.{_≡_, refl}
 use Rattle.code.proofs.First.{IsFirst, is-first}
-use Rattle.code.specs.Lookups.{locationWidth, locationRow, greater, firstGreater, rowBefore, largestU32, locationOf}
-use Rattle.code.specs.Rows.{rowCount}
+use Rattle.code.specs.Locations.{locationCount, locationRow}
+use Rattle.code.specs.Lookups.{greater, firstGreater, rowBefore, largestU32, locationOf}
 use Rattle.code.specs.declared.Located.{Located}
 use Rattle.code.specs.declared.Located.the-variants.{Row, Absent}
-
--- the number of rows
-abbrev pub rowsIn : List ℕ → ℕ
-rowsIn cells = rowCount locationWidth cells
 
 -- the offset of row i
 abbrev pub offsetOf : List ℕ → ℕ → ℕ
@@ -22,22 +18,22 @@ offsetOf cells i = locationRow cells i .offset
 
 -- offsets in rising order
 abbrev pub Rising : List ℕ → Type 0
-Rising cells = (i j : ℕ) → i ≤ j → j < rowsIn cells → offsetOf cells i ≤ offsetOf cells j
+Rising cells = (i j : ℕ) → i ≤ j → j < locationCount cells → offsetOf cells i ≤ offsetOf cells j
 
 -- row i is the last whose offset is at most x
 pub record LastAtMost (cells : List ℕ) (x i : ℕ) : Type 0 where
-  pub inside : i < rowsIn cells
+  pub inside : i < locationCount cells
   pub atMost : offsetOf cells i ≤ x
-  pub later : (j : ℕ) → i < j → j < rowsIn cells → x < offsetOf cells j
+  pub later : (j : ℕ) → i < j → j < locationCount cells → x < offsetOf cells j
 
 -- the answer is that row, or there is none
 abbrev pub AnswersLast : List ℕ → ℕ → Located → Type 0
 AnswersLast cells x (Row i r) = (r ≡ locationRow cells i) × LastAtMost cells x i
-AnswersLast cells x Absent = (i : ℕ) → i < rowsIn cells → x < offsetOf cells i
+AnswersLast cells x Absent = (i : ℕ) → i < locationCount cells → x < offsetOf cells i
 
 module _ (cells : List ℕ) (x : ℕ) (rising : Rising cells) where
   -- the row before the first greater one is the last at most x
-  before-first : (n : ℕ) → IsFirst (greater cells x) (rowsIn cells) n → AnswersLast cells x (rowBefore cells n)
+  before-first : (n : ℕ) → IsFirst (greater cells x) (locationCount cells) n → AnswersLast cells x (rowBefore cells n)
   before-first zero d = λ i lt.
       omega (arith, ltb-true x (offsetOf cells 0) (d .hit (omega arith)), rising 0 i (omega arith) lt)
   before-first (suc i) d = (
@@ -53,7 +49,7 @@ module _ (cells : List ℕ) (x : ℕ) (rising : Rising cells) where
   pub location-rising : x ≤ largestU32 → AnswersLast cells x (locationOf cells x)
   unfolding locationOf firstGreater
   location-rising small =
-      rw (le-ltb largestU32 x small) (before-first (firstGreater cells x) (is-first (greater cells x) (rowsIn cells)))
+      rw (le-ltb largestU32 x small) (before-first (firstGreater cells x) (is-first (greater cells x) (locationCount cells)))
 
 -- there is only one such answer
 module _ (cells : List ℕ) (x : ℕ) where

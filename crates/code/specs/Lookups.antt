@@ -1,12 +1,15 @@
 -- What the lookups over lent tables answer: document 01, "Lookups"; code.rs, `impl Code`.
 -- Assumes nothing.
-use Prim.Native.Nat.{ℕ, zero, suc, _-_}
-use mathlib.Core.Bool.{Bool, _&&_}
+use mathlib.Core.Path.{_≡_}
+use Prim.Native.Nat.{ℕ, zero, suc, _+_, _-_, _≤_, _<_}
+use mathlib.Core.Bool.{Bool, true, _&&_}
 use mathlib.Core.List.{List, [], _∷_}
 use lib.Dec.{leb, ltb, eqb}
 use lib.ListN.{length, getD}
 use Rattle.op.specs.Choice.{pick}
 use Rattle.code.specs.Rows.{rowCount, cell, first}
+use Rattle.code.specs.Tables.{exceptionCells}
+use Rattle.code.specs.Locations.{locationCount, locationRoom, locationRow, pushLocation, usedLocations}
 use Rattle.code.specs.declared.Constant.{Constant}
 use Rattle.code.specs.declared.Constant.the-variants as C
 use Rattle.code.specs.declared.Handled.{Handled}
@@ -18,29 +21,13 @@ use Rattle.code.specs.declared.Located.{Located}
 use Rattle.code.specs.declared.Located.the-variants as L
 use Rattle.code.specs.declared.LocationRow.{LocationRow}
 
--- "locations (u32, six a row: offset, range start, end, focus present 0/1, focus start, end"
-abbrev pub locationWidth : ℕ
-locationWidth = 6
-
--- row i of the location table
-abbrev pub locationRow : List ℕ → ℕ → LocationRow
-locationRow cells i =
-    record {
-      offset = cell locationWidth cells i 0;
-      start = cell locationWidth cells i 1;
-      end = cell locationWidth cells i 2;
-      «focus_present» = cell locationWidth cells i 3;
-      «focus_start» = cell locationWidth cells i 4;
-      «focus_end» = cell locationWidth cells i 5;
-    }
-
 -- is the offset of row i greater?
 abbrev pub greater : List ℕ → ℕ → ℕ → Bool
 greater cells x i = ltb x (locationRow cells i .offset)
 
 -- "the first row whose offset is greater", or the number of rows "if none is"
 unfoldable pub firstGreater : List ℕ → ℕ → ℕ
-firstGreater cells x = first (greater cells x) (rowCount locationWidth cells)
+firstGreater cells x = first (greater cells x) (locationCount cells)
 
 -- the row before row n; "none if there is no such row"
 abbrev pub rowBefore : List ℕ → ℕ → Located
@@ -55,20 +42,24 @@ largestU32 = 4294967295
 unfoldable pub locationOf : List ℕ → ℕ → Located
 locationOf cells x = pick (ltb largestU32 x) L.Absent (rowBefore cells (firstGreater cells x))
 
--- "exceptions (u32, six a row: start, end, handler, depth, exception count, kind"
-abbrev pub handlerWidth : ℕ
-handlerWidth = 6
+-- what is recorded is found: a row is pushed where there is room and no used row's offset is greater, and the lookup of its
+-- offset over the rows then used answers its number and its numbers
+abbrev pub RecordedIsFound : Type 0
+RecordedIsFound =
+    (locations : List ℕ) (rows : ℕ) (row : LocationRow) → locationRoom rows (length locations) ≡ true
+    → row .offset ≤ largestU32 → ((i : ℕ) → i < rows → locationRow locations i .offset ≤ row .offset)
+    → locationOf (usedLocations (rows + 1) (pushLocation rows row locations)) (row .offset) ≡ L.Row rows row
 
 -- row i of the exception table
 abbrev pub handlerRow : List ℕ → ℕ → HandlerRow
 handlerRow cells i =
     record {
-      start = cell handlerWidth cells i 0;
-      end = cell handlerWidth cells i 1;
-      handler = cell handlerWidth cells i 2;
-      depth = cell handlerWidth cells i 3;
-      count = cell handlerWidth cells i 4;
-      kind = cell handlerWidth cells i 5;
+      start = cell exceptionCells cells i 0;
+      end = cell exceptionCells cells i 1;
+      handler = cell exceptionCells cells i 2;
+      depth = cell exceptionCells cells i 3;
+      count = cell exceptionCells cells i 4;
+      kind = cell exceptionCells cells i 5;
     }
 
 -- the cells of such a row
@@ -85,12 +76,12 @@ covering cells x i = coversOf (handlerRow cells i .start) (handlerRow cells i .e
 
 -- "the first row in insertion order with start <= offset < end", or the number of rows
 unfoldable pub firstCovering : List ℕ → ℕ → ℕ
-firstCovering cells x = first (covering cells x) (rowCount handlerWidth cells)
+firstCovering cells x = first (covering cells x) (rowCount exceptionCells cells)
 
 -- Handler: that row
 unfoldable pub handlerOf : List ℕ → ℕ → Handled
 handlerOf cells x =
-    pick (ltb (firstCovering cells x) (rowCount handlerWidth cells))
+    pick (ltb (firstCovering cells x) (rowCount exceptionCells cells))
     (H.Row (firstCovering cells x) (handlerRow cells (firstCovering cells x)))
     H.Absent
 

@@ -12,6 +12,27 @@ mod steps;
 mod store;
 pub mod writer;
 
+// How much of the lent code can be used.
+pub const CODE_LIMIT: usize = 1048576;
+
+// How many cells a row of a lent table has.
+pub const LOCATION_CELLS: usize = 6;
+
+pub const EXCEPTION_CELLS: usize = 6;
+
+pub const MARK_CELLS: usize = 4;
+
+pub const START_CELLS: usize = 2;
+
+// The greatest depth, name and constant index.
+pub const WORD_MAX: u32 = 65535;
+
+// What a depth slice holds where there is no depth.
+pub const NO_DEPTH: u32 = 65536;
+
+// The bytes of a jump.
+pub const JUMP_SIZE: usize = 3;
+
 // What stands at an offset of the code.
 pub enum Step {
     // an instruction of `size` bytes, keyword names included

@@ -2,17 +2,17 @@
 ghost use mathlib.Core.Path.{_≡_};
 ghost use Prim.Native.Nat.{_<_};
 ghost use Rattle.code.specs.Rows.{rowCount, cell};
-ghost use Rattle.code.specs.Lookups.{locationWidth, handlerWidth, locationRow, handlerRow, firstGreater, coversOf, covering, firstCovering, locationOf, handlerOf, constantOf, localNameOf};
+ghost use Rattle.code.specs.Tables.{exceptionCells};
+ghost use Rattle.code.specs.Locations.{locationCount, locationRow};
+ghost use Rattle.code.specs.Lookups.{handlerRow, firstGreater, coversOf, covering, firstCovering, locationOf, handlerOf, constantOf, localNameOf};
 use crate::Constant;
+use crate::EXCEPTION_CELLS;
 use crate::Handled;
 use crate::HandlerRow;
+use crate::LOCATION_CELLS;
 use crate::LocalName;
 use crate::Located;
 use crate::LocationRow;
-
-const LOCATION_WIDTH: usize = 6;
-
-const HANDLER_WIDTH: usize = 6;
 
 const LARGEST_U32: usize = 4294967295;
 
@@ -26,16 +26,16 @@ fn cell_of(rows: &[u32], width: usize, row: usize, k: usize) -> u32
 
 // A row of the location table.
 fn location_row(rows: &[u32], row: usize) -> LocationRow
-    requires { ⌜ row < rowCount locationWidth (now rows) ⌝ }
+    requires { ⌜ row < locationCount (now rows) ⌝ }
     ensures { λ r. ⌜ r ≡ locationRow (now (rows .entry)) row ⌝ }
 {
     LocationRow {
-        offset: cell_of(rows, LOCATION_WIDTH, row, 0),
-        start: cell_of(rows, LOCATION_WIDTH, row, 1),
-        end: cell_of(rows, LOCATION_WIDTH, row, 2),
-        focus_present: cell_of(rows, LOCATION_WIDTH, row, 3),
-        focus_start: cell_of(rows, LOCATION_WIDTH, row, 4),
-        focus_end: cell_of(rows, LOCATION_WIDTH, row, 5),
+        offset: cell_of(rows, LOCATION_CELLS, row, 0),
+        start: cell_of(rows, LOCATION_CELLS, row, 1),
+        end: cell_of(rows, LOCATION_CELLS, row, 2),
+        focus_present: cell_of(rows, LOCATION_CELLS, row, 3),
+        focus_start: cell_of(rows, LOCATION_CELLS, row, 4),
+        focus_end: cell_of(rows, LOCATION_CELLS, row, 5),
     }
 }
 
@@ -43,13 +43,13 @@ fn location_row(rows: &[u32], row: usize) -> LocationRow
 fn first_greater(rows: &[u32], offset: usize) -> usize
     ensures { λ r. ⌜ r ≡ firstGreater (now (rows .entry)) offset ⌝ }
 {
-    let count = rows.len() / LOCATION_WIDTH;
+    let count = rows.len() / LOCATION_CELLS;
     let mut row: usize = 0;
     while row + 1 < count {
-        if offset < cell_of(rows, LOCATION_WIDTH, row, 0) as usize {
+        if offset < cell_of(rows, LOCATION_CELLS, row, 0) as usize {
             return row;
         }
-        if offset < cell_of(rows, LOCATION_WIDTH, row + 1, 0) as usize {
+        if offset < cell_of(rows, LOCATION_CELLS, row + 1, 0) as usize {
             return row + 1;
         }
         row += 2;
@@ -57,7 +57,7 @@ fn first_greater(rows: &[u32], offset: usize) -> usize
     if row == count {
         return count;
     }
-    if offset < cell_of(rows, LOCATION_WIDTH, row, 0) as usize {
+    if offset < cell_of(rows, LOCATION_CELLS, row, 0) as usize {
         return row;
     }
     count
@@ -80,16 +80,16 @@ pub fn location_for_offset(rows: &[u32], offset: usize) -> Located
 
 // A row of the exception table.
 fn handler_row(rows: &[u32], row: usize) -> HandlerRow
-    requires { ⌜ row < rowCount handlerWidth (now rows) ⌝ }
+    requires { ⌜ row < rowCount exceptionCells (now rows) ⌝ }
     ensures { λ r. ⌜ r ≡ handlerRow (now (rows .entry)) row ⌝ }
 {
     HandlerRow {
-        start: cell_of(rows, HANDLER_WIDTH, row, 0),
-        end: cell_of(rows, HANDLER_WIDTH, row, 1),
-        handler: cell_of(rows, HANDLER_WIDTH, row, 2),
-        depth: cell_of(rows, HANDLER_WIDTH, row, 3),
-        count: cell_of(rows, HANDLER_WIDTH, row, 4),
-        kind: cell_of(rows, HANDLER_WIDTH, row, 5),
+        start: cell_of(rows, EXCEPTION_CELLS, row, 0),
+        end: cell_of(rows, EXCEPTION_CELLS, row, 1),
+        handler: cell_of(rows, EXCEPTION_CELLS, row, 2),
+        depth: cell_of(rows, EXCEPTION_CELLS, row, 3),
+        count: cell_of(rows, EXCEPTION_CELLS, row, 4),
+        kind: cell_of(rows, EXCEPTION_CELLS, row, 5),
     }
 }
 
@@ -105,11 +105,11 @@ pub(crate) fn covers(start: u32, end: u32, offset: u32) -> bool
 
 // Whether a row's range holds the offset.
 fn row_covers(rows: &[u32], row: usize, offset: u32) -> bool
-    requires { ⌜ row < rowCount handlerWidth (now rows) ⌝ }
+    requires { ⌜ row < rowCount exceptionCells (now rows) ⌝ }
     ensures { λ r. ⌜ r ≡ covering (now (rows .entry)) offset row ⌝ }
 {
-    let start = cell_of(rows, HANDLER_WIDTH, row, 0);
-    let end = cell_of(rows, HANDLER_WIDTH, row, 1);
+    let start = cell_of(rows, EXCEPTION_CELLS, row, 0);
+    let end = cell_of(rows, EXCEPTION_CELLS, row, 1);
     covers(start, end, offset)
 }
 
@@ -117,7 +117,7 @@ fn row_covers(rows: &[u32], row: usize, offset: u32) -> bool
 fn first_covering(rows: &[u32], offset: u32) -> usize
     ensures { λ r. ⌜ r ≡ firstCovering (now (rows .entry)) offset ⌝ }
 {
-    let count = rows.len() / HANDLER_WIDTH;
+    let count = rows.len() / EXCEPTION_CELLS;
     let mut row: usize = 0;
     while row + 1 < count {
         if row_covers(rows, row, offset) {
@@ -142,7 +142,7 @@ pub fn find_exception_handler(rows: &[u32], offset: u32) -> Handled
     ensures { λ r. ⌜ r ≡ handlerOf (now (rows .entry)) offset ⌝ }
 {
     let row = first_covering(rows, offset);
-    if row < rows.len() / HANDLER_WIDTH {
+    if row < rows.len() / EXCEPTION_CELLS {
         return Handled::Row(row, handler_row(rows, row));
     }
     Handled::Absent

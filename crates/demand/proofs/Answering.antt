@@ -14,7 +14,7 @@ use Rattle.op.specs.Opcodes.{lastOpcode}
 use Rattle.code.specs.Depths.{Smallest, Derived}
 use Rattle.code.proofs.Assigning.{smallest-agree}
 use Rattle.code.proofs.Counting.{counts-one}
-use Rattle.builder.specs.Tables.{codeLimit, startCells}
+use Rattle.code.specs.Tables.{codeLimit, startCells}
 use Rattle.builder.specs.declared.Builder.{Builder}
 use Rattle.checker.specs.Cells.{cell, depthIn}
 use Rattle.checker.specs.Promise.{Promise, stops, passes, builtSound, BuiltPromise}

@@ -16,7 +16,7 @@ use Rattle.builder.specs.State.{kept, unless}
 use Rattle.builder.specs.Marks.{anyOpen}
 use Rattle.builder.specs.Names.{filledNames, buildOf}
 use Rattle.builder.specs.Marks.{openKind, markOf, markAt}
-use Rattle.builder.specs.Tables.{codeLimit, markCells, rowsIn}
+use Rattle.code.specs.Tables.{codeLimit, markCells, within}
 use Rattle.builder.specs.declared.Answer.{Answer}
 use Rattle.builder.specs.declared.Answer.the-variants.{Accepted, Refused}
 use Rattle.builder.specs.declared.Builder.{Builder}
@@ -37,7 +37,7 @@ built-facts : (b : Builder) (fill : ℕ) (names marks : List ℕ) (n : Builder) 
     → (b .core .code ≤ codeLimit) × (anyOpen (b .core .marks) marks ≡ false) × (n ≡ b)
 unfolding buildOf
 built-facts b fill names marks n e =
-    go (leb (b .core .code) codeLimit) (leb (b .names) (length names) && rowsIn markCells (b .core .marks) (length marks)) (anyOpen (b .core .marks) marks) refl refl e
+    go (leb (b .core .code) codeLimit) (leb (b .names) (length names) && within markCells (b .core .marks) (length marks)) (anyOpen (b .core .marks) marks) refl refl e
   where
     go : (s t u : Bool) → leb (b .core .code) codeLimit ≡ s → anyOpen (b .core .marks) marks ≡ u
         → unless (s && t) Unsound names (pick u (kept (Refused OpenLabel) names) (kept (Accepted b) (filledNames (b .names) fill names))) .answer ≡ Accepted n

@@ -25,7 +25,7 @@ use Rattle.builder.specs.Marks.{targetOf}
 use Rattle.builder.specs.Marks.{markOf, markIn, fits, markable, near, bits}
 use Rattle.builder.specs.Patch.{markPlanOf, patchPlanOf, patchJumpOf}
 use Rattle.builder.specs.Plan.{soundOf, behind, emittingOf, enterOf, planOf}
-use Rattle.builder.specs.Tables.{put}
+use Rattle.code.specs.Tables.{put}
 use Rattle.builder.specs.declared.Depth.the-variants.{Live}
 use Rattle.builder.specs.declared.JumpLabel.{JumpLabel}
 use Rattle.builder.specs.declared.JumpLabel.the-variants as L

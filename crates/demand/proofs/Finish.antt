@@ -19,7 +19,7 @@ use Rattle.code.specs.declared.Goal.the-variants.{Nowhere, To}
 use Rattle.code.proofs.Assigning.{derived-in, smallest}
 use Rattle.code.proofs.Flows.{goal-target}
 use Rattle.code.proofs.Places.{stands-one, place-le}
-use Rattle.builder.specs.Tables.{jumpSize}
+use Rattle.code.specs.Tables.{jumpSize}
 use Rattle.builder.specs.declared.Depth.the-variants.{Live}
 use Rattle.checker.specs.Promise.{Listed}
 use Rattle.demand.specs.Machine.{isa}

@@ -19,7 +19,7 @@ use Rattle.builder.specs.declared.patch.PatchPlan.{PatchPlan}
 use Rattle.builder.specs.declared.patch.PatchPlan.the-variants as Patching
 use Rattle.builder.specs.declared.plan.Plan.{Plan}
 use Rattle.builder.specs.declared.plan.Plan.the-variants.{Idle, Refuse, Go}
-use Rattle.builder.specs.Tables.{put}
+use Rattle.code.specs.Tables.{put}
 use Rattle.builder.specs.Plan.{planOf}
 use Rattle.builder.specs.Emission.{commitOf, emitCore, outcomeBy, emitNamed}
 use Rattle.builder.specs.Marks.{markIn, markable}
@@ -28,7 +28,7 @@ use Rattle.builder.specs.Back.{jumpBy}
 use Rattle.builder.specs.Back.{toPlanOf, commitTo, jumpToCore, emitJumpToOf}
 use Rattle.builder.specs.Patch.{markPlanOf, patchPlanOf, commitPatch, patchJumpOf}
 use Rattle.demand.specs.World.{after, afterJump}
-use Rattle.builder.proofs.Putting.{length-put}
+use Rattle.code.proofs.Putting.{length-put}
 use Rattle.builder.proofs.Plans.{LiveGoes, plan-goes}
 use Rattle.builder.proofs.JumpPlans.{forward-goes, to-goes}
 use Rattle.builder.proofs.PatchPlans.{patch-guard-go, patch-goes}

@@ -26,7 +26,7 @@ use Rattle.builder.specs.declared.patch.PatchPlan.the-variants as Patching
 use Rattle.builder.specs.declared.plan.Plan.{Plan}
 use Rattle.builder.specs.declared.plan.Plan.the-variants.{Idle, Refuse, Go}
 use Rattle.builder.specs.declared.Targeted.the-variants as G
-use Rattle.builder.specs.Tables.{codeLimit, wordMax, exceptionCells, markCells, startCells, rowsIn, rowFree}
+use Rattle.code.specs.Tables.{wordMax, exceptionCells, markCells, startCells, within, room}
 use Rattle.builder.specs.Plan.{planOf}
 use Rattle.builder.specs.Emission.{commitOf, emitCore, outcomeBy, emitNamed}
 use Rattle.builder.specs.Marks.{TargetOutcome, targetAt, targetOf}
@@ -100,12 +100,12 @@ module _ (b : Builder) (r : Refusal) (marks : List ℕ) where
 
   target-at : (d : Depth) → MarksKept (targetAt d b marks)
   target-at Dead = λ e. refl
-  target-at (Live d) = either MarksKept (rowFree markCells (b .core .marks) (length marks)) _ _ (λ e. cc) (λ e. refl)
+  target-at (Live d) = either MarksKept (room markCells (b .core .marks) (length marks)) _ _ (λ e. cc) (λ e. refl)
 
   pub target-refused : MarksKept (targetOf b marks)
   unfolding targetOf
   target-refused =
-      either MarksKept (leb (b .core .code) codeLimit && rowsIn markCells (b .core .marks) (length marks)) _ _ (target-at (b .core .depth)) (λ e. refl)
+      either MarksKept (countsOf b (within markCells (b .core .marks) (length marks))) _ _ (target-at (b .core .depth)) (λ e. refl)
 
 -- a call with one table
 abbrev CellsKept : Refusal → List ℕ → Kept → Type 0
@@ -121,23 +121,23 @@ module _ (r : Refusal) (cells : List ℕ) where
   pub new-kept : (told : Depth) → CellsKept r cells (newOf told cells)
   unfolding newOf
   new-kept Dead = accepting (freshAt Dead 0) cells
-  new-kept (Live d) = passing (rowFree startCells 0 (length cells)) (Full Starts) _ (accepting _ _)
+  new-kept (Live d) = passing (room startCells 0 (length cells)) (Full Starts) _ (accepting _ _)
 
   module _ (b : Builder) where
     region-at : (x : Depth) (d : ℕ) → CellsKept r cells (regionAt x b d cells)
     region-at (Live e) d = λ q. refl
-    region-at Dead d = passing (rowFree startCells (b .starts) (length cells)) (Full Starts) _ (accepting _ _)
+    region-at Dead d = passing (room startCells (b .starts) (length cells)) (Full Starts) _ (accepting _ _)
 
     pub region-refused : (d : ℕ) → CellsKept r cells (regionOf b d cells)
     unfolding regionOf
-    region-refused d = passing (countsOf b (rowsIn startCells (b .starts) (length cells))) Unsound _ (region-at (b .core .depth) d)
+    region-refused d = passing (countsOf b (within startCells (b .starts) (length cells))) Unsound _ (region-at (b .core .depth) d)
 
     pub exception-refused : (start end handler depth count : ℕ) (kind : HandlerKind) → CellsKept r cells (addExceptionOf b start end handler depth count kind cells)
     unfolding addExceptionOf
     exception-refused start end handler depth count kind =
-        passing (countsOf b (rowsIn exceptionCells (b .exceptions) (length cells))) Unsound _
+        passing (countsOf b (within exceptionCells (b .exceptions) (length cells))) Unsound _
         (passing (offsetsFit start end handler) TooLarge _
-        (passing (rowFree exceptionCells (b .exceptions) (length cells)) (Full Exceptions) _ (accepting _ _)))
+        (passing (room exceptionCells (b .exceptions) (length cells)) (Full Exceptions) _ (accepting _ _)))
 
     pub names-refused : (ns : List ℕ) → CellsKept r cells (registerNamesOf b ns cells)
     unfolding registerNamesOf
@@ -156,7 +156,7 @@ module _ (r : Refusal) (cells : List ℕ) where
     pub build-refused : (name : ℕ) (marks : List ℕ) → CellsKept r cells (buildOf b name cells marks)
     unfolding buildOf
     build-refused name marks =
-        passing (countsOf b (leb (b .names) (length cells) && rowsIn markCells (b .core .marks) (length marks))) Unsound _
+        passing (countsOf b (leb (b .names) (length cells) && within markCells (b .core .marks) (length marks))) Unsound _
         (either (CellsKept r cells) (anyOpen (b .core .marks) marks) _ _ (λ e. refl) (accepting _ _))
 
 -- other calls: what the view looks at stays
@@ -181,9 +181,9 @@ module _ (b : Builder) (cells : List ℕ) where
   pub exception-same : (start end handler depth count : ℕ) (kind : HandlerKind) → SameCore b (addExceptionOf b start end handler depth count kind cells)
   unfolding addExceptionOf
   exception-same start end handler depth count kind =
-      over (countsOf b (rowsIn exceptionCells (b .exceptions) (length cells))) Unsound _
+      over (countsOf b (within exceptionCells (b .exceptions) (length cells))) Unsound _
       (over (offsetsFit start end handler) TooLarge _
-      (over (rowFree exceptionCells (b .exceptions) (length cells)) (Full Exceptions) _ (staying (withExceptions b (b .exceptions + 1)) _ refl refl)))
+      (over (room exceptionCells (b .exceptions) (length cells)) (Full Exceptions) _ (staying (withExceptions b (b .exceptions + 1)) _ refl refl)))
 
   pub names-same : (ns : List ℕ) → SameCore b (registerNamesOf b ns cells)
   unfolding registerNamesOf
@@ -202,7 +202,7 @@ module _ (b : Builder) (cells : List ℕ) where
   pub build-same : (name : ℕ) (marks : List ℕ) → SameCore b (buildOf b name cells marks)
   unfolding buildOf
   build-same name marks =
-      over (countsOf b (leb (b .names) (length cells) && rowsIn markCells (b .core .marks) (length marks))) Unsound _
+      over (countsOf b (leb (b .names) (length cells) && within markCells (b .core .marks) (length marks))) Unsound _
       (either (SameCore b) (anyOpen (b .core .marks) marks) _ _ (refusing OpenLabel) (staying b _ refl refl))
 
 -- add_const

@@ -7,7 +7,7 @@ use mathlib.Core.Option.{some}
 use Prim.Native.Nat.{ℕ, _+_, _/_, _%_, _≤_, _<_}
 use lib.IntN.{subℕ}
 use lib.ListN.{length}
-use Rattle.builder.specs.Tables.{jumpSize}
+use Rattle.code.specs.Tables.{jumpSize}
 use Rattle.builder.specs.Marks.{near, bits}
 use Rattle.demand.specs.Isa.{end, ins, Isa}
 

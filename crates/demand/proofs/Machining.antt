@@ -35,7 +35,7 @@ use Rattle.code.specs.declared.Goal.the-variants.{Nowhere}
 use Rattle.code.proofs.Decoding.{shape-known}
 use Rattle.code.proofs.Inverse.{decode-encode, names-encode, words-names}
 use Rattle.code.proofs.Twos.{signed-small, unsigned-signed}
-use Rattle.builder.specs.Tables.{jumpSize}
+use Rattle.code.specs.Tables.{jumpSize}
 use Rattle.builder.specs.Marks.{near, bits}
 use Rattle.builder.proofs.Plans.{after-shape}
 use Rattle.builder.proofs.Displacing.{displaced, bits-small}

@@ -16,7 +16,7 @@ use Rattle.builder.specs.declared.JumpLabel.the-variants as L
 use Rattle.builder.specs.declared.JumpTarget.{JumpTarget}
 use Rattle.builder.specs.declared.JumpTarget.the-variants as T
 use Rattle.builder.specs.declared.marks.Mark.the-variants.{Open, Patched, Target}
-use Rattle.builder.specs.Tables.{wordMax}
+use Rattle.code.specs.Tables.{wordMax}
 use Rattle.builder.specs.Plan.{behind}
 use Rattle.builder.specs.Marks.{meets, bits, near}
 use Rattle.builder.specs.Forward.{unpatched}

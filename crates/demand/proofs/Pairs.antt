@@ -7,7 +7,7 @@ use native.Mathlib.Omega.{arith}
 use lib.ListN.{length, take, drop, getD, length-drop}
 use lib.Seq.{take-add, getD-drop}
 use Rattle.code.specs.Depths.{Begins}
-use Rattle.builder.specs.Tables.{startCells}
+use Rattle.code.specs.Tables.{startCells}
 use Rattle.demand.specs.Demand.{cells}
 use Rattle.demand.proofs.View.{tab, startAt}
 

@@ -15,7 +15,7 @@ use Rattle.op.specs.Opcodes.{RaiseUnboundLocal}
 use Rattle.op.specs.declared.Operand.{Operand}
 use Rattle.op.specs.declared.Operand.the-variants as O
 use Rattle.code.specs.Encode.{SignsFit}
-use Rattle.builder.specs.Tables.{startCells}
+use Rattle.code.specs.Tables.{startCells}
 use Rattle.builder.specs.Emission.{loadOp, loadOperand, storeOp, storeOperand}
 use Rattle.builder.specs.Emission.{emitNamed}
 use Rattle.builder.specs.State.{Kept}

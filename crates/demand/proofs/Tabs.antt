@@ -16,7 +16,7 @@ use lib.Seq.{set-at, set-append-left, getD-set-same, getD-set-other, getD-append
 use Rattle.op.specs.Choice.{pick}
 use Rattle.code.specs.Bytes.{wordBytes}
 use Rattle.builder.specs.declared.marks.Mark.the-variants.{Absent, Open, Patched, Target}
-use Rattle.builder.specs.Tables.{markCells, startCells, put}
+use Rattle.code.specs.Tables.{markCells, startCells, put}
 use Rattle.builder.specs.Marks.{openKind, patchedKind, targetKind, markRow, markOf, markAt}
 use Rattle.demand.proofs.Lists.{nth-left, nth-seam}
 use Rattle.demand.proofs.View.{tab, startAt}

@@ -10,7 +10,7 @@ use Rattle.op.specs.Opcodes.{lastOpcode}
 use Rattle.builder.specs.State.{Kept, kept}
 use Rattle.builder.specs.Regions.{newOf}
 use Rattle.builder.specs.Names.{buildOf}
-use Rattle.builder.specs.Tables.{codeLimit}
+use Rattle.code.specs.Tables.{codeLimit}
 use Rattle.builder.specs.declared.Answer.the-variants.{Accepted}
 use Rattle.builder.specs.declared.Depth.{Depth}
 use Rattle.builder.specs.declared.Depth.the-variants.{Dead, Live}

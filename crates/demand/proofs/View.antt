@@ -21,7 +21,7 @@ use Rattle.builder.specs.declared.JumpTarget.the-variants as T
 use Rattle.builder.specs.declared.marks.Mark.{Mark}
 use Rattle.builder.specs.declared.marks.Mark.the-variants.{Open, Patched, Target}
 use Rattle.demand.specs.History.{Call, emit, emitJump, emitJumpTo, patchJump, jumpTarget, newRegion, other, Given, no, ok, label, target}
-use Rattle.builder.specs.Tables.{startCells, wordMax, jumpSize}
+use Rattle.code.specs.Tables.{startCells, wordMax, jumpSize}
 use Rattle.builder.specs.Plan.{behind}
 use Rattle.builder.specs.Marks.{markAt, near, bits, meets}
 use Rattle.builder.specs.Forward.{unpatched}

@@ -1,7 +1,7 @@
 -- How each call moves the view that demand 3 looks at: from the models alone.
 -- Assumes nothing.
 use mathlib.Core.Path.{_≡_, refl, sym, ap, _∙_}
-use mathlib.Core.Bool.{Bool, true, false, _&&_}
+use mathlib.Core.Bool.{Bool, true, false}
 use mathlib.Core.List.{List, [], _∷_, _++_}
 use mathlib.Core.Option.{some}
 use Prim.Native.Nat.{ℕ, _+_, _/_, _≤_}
@@ -29,7 +29,7 @@ use Rattle.builder.specs.declared.patch.PatchPlan.{PatchPlan}
 use Rattle.builder.specs.declared.patch.PatchPlan.the-variants as Patching
 use Rattle.builder.specs.declared.plan.Plan.{Plan}
 use Rattle.builder.specs.declared.plan.Plan.the-variants.{Idle, Refuse, Go}
-use Rattle.builder.specs.Tables.{codeLimit, markCells, startCells, rowsIn, rowFree, put}
+use Rattle.code.specs.Tables.{markCells, startCells, within, room, put}
 use Rattle.builder.specs.Plan.{planOf}
 use Rattle.builder.specs.Emission.{commitOf, emitCore, outcomeBy, emitNamed}
 use Rattle.builder.specs.Marks.{openKind, targetKind, markAt, markIn, markOf, markable, meets, revived}
@@ -45,7 +45,7 @@ use Rattle.demand.specs.World.{given, after, givenJump, afterJump, given
 use Rattle.demand.proofs.View.{viewOf, tab, Moved}
 use Rattle.demand.specs.History.{emit, emitJump, emitJumpTo, patchJump, jumpTarget, newRegion}
 use Rattle.demand.proofs.View.{refused, dead-emit, dead-jump, dead-to, dead-patch, dead-target, emitted}
-use Rattle.builder.proofs.Putting.{take-put-all}
+use Rattle.code.proofs.Putting.{take-put-all}
 use Rattle.builder.proofs.Plans.{LiveGoes, plan-goes}
 use Rattle.builder.proofs.JumpPlans.{mark-used, forward-goes, to-goes}
 use Rattle.builder.proofs.PatchPlans.{markable-true, patch-goes}
@@ -183,8 +183,8 @@ module _ (b : Builder) (code marks starts : List ℕ) where
 
 -- current_jump_target and new_code_region, which are not lent the code: the count of its used bytes must be within it
 
-module _ (b : Builder) (code marks starts : List ℕ) (within : b .core .code ≤ length code) where
-  spot-by : (x : Depth) (t : Bool) → b .core .depth ≡ x → rowFree markCells (b .core .marks) (length marks) ≡ t
+module _ (b : Builder) (code marks starts : List ℕ) (fits : b .core .code ≤ length code) where
+  spot-by : (x : Depth) (t : Bool) → b .core .depth ≡ x → room markCells (b .core .marks) (length marks) ≡ t
       → Moved (viewOf b code marks starts) jumpTarget (givenTarget (targetAt x b marks .answer))
       (viewOf (afterTarget (targetAt x b marks .answer) b) code (targetAt x b marks .marks) starts)
   spot-by Dead t ed et = dead-target ed
@@ -192,31 +192,31 @@ module _ (b : Builder) (code marks starts : List ℕ) (within : b .core .code �
   spot-by (Live d) true ed et =
       let c = b .core in
       rw (et, marks-push (c .marks) targetKind (c .code) d marks (omega (arith, ltb-true (c .marks) (length marks / markCells) et)), target-of (c .code) d)
-      (spotted-at (viewOf b code marks starts) d (c .marks) (c .code) (tab-length (c .marks) (markAt marks)) (length-take-le (c .code) code within) ed)
+      (spotted-at (viewOf b code marks starts) d (c .marks) (c .code) (tab-length (c .marks) (markAt marks)) (length-take-le (c .code) code fits) ed)
 
-  target-by : (t : Bool) → (leb (b .core .code) codeLimit && rowsIn markCells (b .core .marks) (length marks)) ≡ t
+  target-by : (t : Bool) → (countsOf b (within markCells (b .core .marks) (length marks))) ≡ t
       → Moved (viewOf b code marks starts) jumpTarget (givenTarget (targetOf b marks .answer)) (viewOf (afterTarget (targetOf b marks .answer) b) code (targetOf b marks .marks) starts)
   unfolding targetOf
-  target-by true e = rw e (spot-by (b .core .depth) (rowFree markCells (b .core .marks) (length marks)) refl refl)
+  target-by true e = rw e (spot-by (b .core .depth) (room markCells (b .core .marks) (length marks)) refl refl)
   target-by false e = rw e refused
 
   pub target-moves : Moved (viewOf b code marks starts) jumpTarget (givenTarget (targetOf b marks .answer))
       (viewOf (afterTarget (targetOf b marks .answer) b) code (targetOf b marks .marks) starts)
   target-moves = target-by _ refl
 
-  start-by : (d : ℕ) (x : Depth) (t : Bool) → b .core .depth ≡ x → rowFree startCells (b .starts) (length starts) ≡ t
+  start-by : (d : ℕ) (x : Depth) (t : Bool) → b .core .depth ≡ x → room startCells (b .starts) (length starts) ≡ t
       → Moved (viewOf b code marks starts) (newRegion d) (given (regionAt x b d starts .answer))
       (viewOf (after (regionAt x b d starts .answer) b) code marks (regionAt x b d starts .cells))
   start-by d (Live f) t ed et = refused
   start-by d Dead false ed et = rw et refused
   start-by d Dead true ed et =
       rw (et, starts-push (b .starts) (b .core .code) d starts (omega (arith, ltb-true (b .starts) (length starts / startCells) et)))
-      (opened-at (viewOf b code marks starts) d (b .core .code) (length-take-le (b .core .code) code within) ed)
+      (opened-at (viewOf b code marks starts) d (b .core .code) (length-take-le (b .core .code) code fits) ed)
 
-  region-by : (d : ℕ) (t : Bool) → countsOf b (rowsIn startCells (b .starts) (length starts)) ≡ t
+  region-by : (d : ℕ) (t : Bool) → countsOf b (within startCells (b .starts) (length starts)) ≡ t
       → Moved (viewOf b code marks starts) (newRegion d) (given (regionOf b d starts .answer)) (viewOf (after (regionOf b d starts .answer) b) code marks (regionOf b d starts .cells))
   unfolding regionOf
-  region-by d true e = rw e (start-by d (b .core .depth) (rowFree startCells (b .starts) (length starts)) refl refl)
+  region-by d true e = rw e (start-by d (b .core .depth) (room startCells (b .starts) (length starts)) refl refl)
   region-by d false e = rw e refused
 
   pub region-moves : (d : ℕ) → Moved (viewOf b code marks starts) (newRegion d) (given (regionOf b d starts .answer))
@@ -232,9 +232,9 @@ pub new-view : (told : Depth) (code marks starts : List ℕ) (b : Builder) → n
     → viewOf b code marks (newOf told starts .cells) ≡ record { code = []; marks = []; starts = born told; depth = told }
 unfolding newOf tab
 new-view Dead code marks starts b e = rw (← made (freshAt Dead 0) b e) refl
-new-view (Live d) code marks starts b e = go (rowFree startCells 0 (length starts)) refl e
+new-view (Live d) code marks starts b e = go (room startCells 0 (length starts)) refl e
   where
-    go : (t : Bool) → rowFree startCells 0 (length starts) ≡ t
+    go : (t : Bool) → room startCells 0 (length starts) ≡ t
         → unless t (Full Starts) starts (kept (Accepted (freshAt (Live d) 1)) (put 0 (0 ∷ d ∷ []) starts)) .answer ≡ Accepted b
         → viewOf b code marks (unless t (Full Starts) starts (kept (Accepted (freshAt (Live d) 1)) (put 0 (0 ∷ d ∷ []) starts)) .cells)
         ≡ record { code = []; marks = []; starts = born (Live d); depth = Live d }

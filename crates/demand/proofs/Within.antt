@@ -1,7 +1,7 @@
 -- The used code and the used starts stay within their lent tables, whatever is called.
 -- Assumes nothing.
 use mathlib.Core.Path.{_≡_, refl}
-use mathlib.Core.Bool.{Bool, true, false, _&&_}
+use mathlib.Core.Bool.{Bool, true, false}
 use mathlib.Core.List.{List, [], _∷_}
 use Prim.Native.Nat.{ℕ, _+_, _*_, _/_, _≤_}
 use native.Mathlib.Omega.{arith}
@@ -11,7 +11,7 @@ use borrow.Author.Tests.{ltb-true}
 use Rattle.op.specs.declared.Operand.{Operand}
 use Rattle.op.specs.declared.Refusal.the-variants.{Full}
 use Rattle.op.specs.declared.Table.the-variants.{Starts}
-use Rattle.builder.specs.Tables.{codeLimit, markCells, startCells, rowsIn, rowFree, put}
+use Rattle.code.specs.Tables.{markCells, startCells, within, room, put}
 use Rattle.builder.specs.Emission.{CoreOutcome, emitCore, outcomeBy, emitNamed}
 use Rattle.builder.specs.Marks.{TargetOutcome, targetAt, targetOf}
 use Rattle.builder.specs.Forward.{jumpPlanOf, commitJump, emitJumpOf}
@@ -35,7 +35,7 @@ use Rattle.builder.specs.declared.patch.PatchPlan.{PatchPlan}
 use Rattle.builder.specs.declared.patch.PatchPlan.the-variants as Patching
 use Rattle.builder.specs.declared.plan.Plan.{Plan}
 use Rattle.builder.specs.declared.plan.Plan.the-variants.{Idle, Refuse, Go}
-use Rattle.builder.proofs.Putting.{length-put}
+use Rattle.code.proofs.Putting.{length-put}
 use Rattle.demand.specs.World.{after, afterJump, afterTarget, afterConst}
 use Rattle.demand.proofs.Keeping.{either, SameCore}
 use Rattle.demand.proofs.Views.{made}
@@ -79,18 +79,18 @@ module _ (b : Builder) where
 
   target-at : (marks : List ℕ) (d : Depth) → TargetKeeps (targetAt d b marks)
   target-at marks Dead = (refl, refl)
-  target-at marks (Live d) = either TargetKeeps (rowFree markCells (b .core .marks) (length marks)) _ _ (refl, refl) (refl, refl)
+  target-at marks (Live d) = either TargetKeeps (room markCells (b .core .marks) (length marks)) _ _ (refl, refl) (refl, refl)
 
   pub target-keeps : (marks : List ℕ) → TargetKeeps (targetOf b marks)
   unfolding targetOf
-  target-keeps marks = either TargetKeeps (leb (b .core .code) codeLimit && rowsIn markCells (b .core .marks) (length marks)) _ _ (target-at marks (b .core .depth)) (refl, refl)
+  target-keeps marks = either TargetKeeps (countsOf b (within markCells (b .core .marks) (length marks))) _ _ (target-at marks (b .core .depth)) (refl, refl)
 
   -- a region adds a start where there is room for it
   module _ (d : ℕ) (starts : List ℕ) (inside : b .starts * startCells ≤ length starts) where
     abbrev RegionKeeps : Kept → Type 0
     RegionKeeps x = (after (x .answer) b .core .code ≡ b .core .code) × (after (x .answer) b .starts * startCells ≤ length (x .cells))
 
-    opened-keeps : (t : Bool) → rowFree startCells (b .starts) (length starts) ≡ t
+    opened-keeps : (t : Bool) → room startCells (b .starts) (length starts) ≡ t
         → RegionKeeps (unless t (Full Starts) starts (kept (Accepted (opened b d (b .starts + 1))) (put (b .starts * startCells) (b .core .code ∷ d ∷ []) starts)))
     opened-keeps true e =
         let l = ltb-true (b .starts) (length starts / startCells) e in
@@ -99,11 +99,11 @@ module _ (b : Builder) where
 
     region-at : (x : Depth) → RegionKeeps (regionAt x b d starts)
     region-at (Live e) = (refl, inside)
-    region-at Dead = opened-keeps (rowFree startCells (b .starts) (length starts)) refl
+    region-at Dead = opened-keeps (room startCells (b .starts) (length starts)) refl
 
     pub region-keeps : RegionKeeps (regionOf b d starts)
     unfolding regionOf
-    region-keeps = either RegionKeeps (countsOf b (rowsIn startCells (b .starts) (length starts))) _ _ (region-at (b .core .depth)) (refl, inside)
+    region-keeps = either RegionKeeps (countsOf b (within startCells (b .starts) (length starts))) _ _ (region-at (b .core .depth)) (refl, inside)
 
   -- the other calls keep the core and the starts
 
@@ -129,9 +129,9 @@ pub new-within : (told : Depth) (starts : List ℕ) (b : Builder) → newOf told
     → (b .core .code ≡ 0) × (b .starts * startCells ≤ length (newOf told starts .cells))
 unfolding newOf
 new-within Dead starts b e = rw (← made (freshAt Dead 0) b e) (refl, omega arith)
-new-within (Live d) starts b e = go (rowFree startCells 0 (length starts)) refl e
+new-within (Live d) starts b e = go (room startCells 0 (length starts)) refl e
   where
-    go : (t : Bool) → rowFree startCells 0 (length starts) ≡ t → unless t (Full Starts) starts (kept (Accepted (freshAt (Live d) 1)) (put 0 (0 ∷ d ∷ []) starts)) .answer ≡ Accepted b
+    go : (t : Bool) → room startCells 0 (length starts) ≡ t → unless t (Full Starts) starts (kept (Accepted (freshAt (Live d) 1)) (put 0 (0 ∷ d ∷ []) starts)) .answer ≡ Accepted b
         → (b .core .code ≡ 0) × (b .starts * startCells ≤ length (unless t (Full Starts) starts (kept (Accepted (freshAt (Live d) 1)) (put 0 (0 ∷ d ∷ []) starts)) .cells))
     go true q e =
         let l = ltb-true 0 (length starts / startCells) q in

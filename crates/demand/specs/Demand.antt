@@ -12,7 +12,7 @@ use contract.Lifetimes.{Lfts}
 use lib.ListN.{length, take}
 use Rattle.op.specs.Opcodes.{lastOpcode}
 use Rattle.code.specs.Depths.{Smallest, Derived}
-use Rattle.builder.specs.Tables.{startCells}
+use Rattle.code.specs.Tables.{noDepth, startCells}
 use Rattle.builder.specs.declared.Answer.the-variants.{Accepted}
 use Rattle.builder.specs.declared.Depth.{Depth}
 use Rattle.builder.specs.declared.Depth.the-variants.{Dead, Live}
@@ -65,7 +65,7 @@ depths w h o = depthAt isa (h .rows) (length (finished w)) (w .state .core .dept
 
 -- a depth's cell: "65,536 in every other cell"
 abbrev pub cellOf : Option ℕ → ℕ
-cellOf none = 65536
+cellOf none = noDepth
 cellOf (some d) = d
 
 -- a check accepts, with these depths in its cells, and counts as many instructions as the history has

@@ -10,7 +10,7 @@ use lib.ListN.{length}
 use Rattle.op.specs.Choice.{pick}
 use Rattle.op.specs.declared.Operand.{Operand}
 use Rattle.op.specs.declared.Refusal.{Refusal}
-use Rattle.builder.specs.Tables.{jumpSize}
+use Rattle.code.specs.Tables.{jumpSize}
 use Rattle.builder.specs.declared.Depth.{Depth}
 use Rattle.builder.specs.declared.Depth.the-variants.{Dead, Live}
 use Rattle.builder.specs.declared.JumpLabel.{JumpLabel}

@@ -14,7 +14,7 @@ use Rattle.code.specs.Entries.{findFrom, tableOf}
 use Rattle.code.specs.Flow.{goalBy, flowOf}
 use Rattle.code.specs.Lookups.{coversOf, firstCovering, handlerOf}
 use Rattle.code.specs.Rows.{first}
-use Rattle.builder.specs.Tables.{put}
+use Rattle.code.specs.Tables.{put}
 use Rattle.builder.specs.Marks.{bits, fits, markIn, markOf, markable, near}
 use Rattle.builder.specs.Plan.{behind, emittingOf, enterOf, planOf, soundOf}
 use Rattle.builder.specs.Emission.{emitCore, emitNamed}

@@ -26,7 +26,7 @@ use Rattle.builder.specs.declared.JumpLabel.the-variants as L
 use Rattle.builder.specs.declared.JumpTarget.the-variants as T
 use Rattle.builder.specs.declared.Jumped.the-variants as J
 use Rattle.builder.specs.declared.Location.the-variants.{Unset}
-use Rattle.builder.specs.Tables.{put}
+use Rattle.code.specs.Tables.{put}
 use Rattle.op.specs.Chosen.{CallFunctionKw}
 use Rattle.builder.specs.Emission.{outcome, emitOf, emitNamed, loadOp, loadOperand}
 use Rattle.builder.specs.Marks.{bits, markRow, openKind, patchedKind, targetKind}

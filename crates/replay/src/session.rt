@@ -28,7 +28,7 @@ use crate::tables::Zeros;
 use builder::Answer;
 use builder::Builder;
 use builder::Depth;
-use builder::START_CELLS;
+use code::START_CELLS;
 
 // What `new` asks for: the depth, and the cells of each table.
 struct Order {

@@ -1,7 +1,7 @@
 -- `builder::Builder::add_const` meets its contract: its tests are the definition's, and the lent part comes back with the value.
 -- Assumes nothing.
 use Prim.Native.Nat.{_+_, _≤_}
-use Rattle.builder.proofs.Putting.{put-lent}
+use Rattle.code.proofs.Putting.{put-lent}
 use Rattle.builder.specs.Constants.{addConstOf}
 use borrow.Author.Needs.{needs}
 use borrow.Author.Tests.{le-leb, le-ltb, lt-leb, lt-ltb}

@@ -2,9 +2,9 @@
 -- Assumes nothing.
 use Prim.Native.Nat.{_*_, _+_, _≤_, ℕ}
 use Rattle.builder.proofs.Plans.{both}
-use Rattle.builder.proofs.Putting.{put-lent}
+use Rattle.code.proofs.Putting.{put-lent}
 use Rattle.builder.specs.Exceptions.{addExceptionOf, exceptionRow, offsetMax, offsetsFit}
-use Rattle.builder.specs.Tables.{exceptionCells}
+use Rattle.code.specs.Tables.{exceptionCells}
 use borrow.Author.Needs.{needs}
 use borrow.Author.Tests.{le-leb, le-ltb, leb-true, lt-leb, lt-ltb, not-false, not-true}
 use lib.Dec.{leb}

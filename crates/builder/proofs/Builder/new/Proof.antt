@@ -1,6 +1,6 @@
 -- `builder::Builder::new` meets its contract: its test is the definition's, and the start stands at the front.
 -- Assumes nothing.
-use Rattle.builder.proofs.Putting.{put-front}
+use Rattle.code.proofs.Putting.{put-front}
 use Rattle.builder.specs.State.{kept}
 use Rattle.builder.specs.Regions.{newOf}
 use borrow.Author.Needs.{needs}

@@ -2,7 +2,7 @@
 -- Assumes nothing.
 use Prim.Native.Nat.{_-_}
 use Rattle.builder.proofs.Naming.{extension-fits}
-use Rattle.builder.proofs.Putting.{put-lent}
+use Rattle.code.proofs.Putting.{put-lent}
 use Rattle.builder.specs.Names.{extension, registerNameOf}
 use borrow.Author.Needs.{needs}
 use borrow.Author.Tests.{le-leb, le-ltb, lt-leb, lt-ltb}

@@ -1,6 +1,6 @@
 -- `builder::Builder::register_local_names` meets its contract: its tests are the definition's, and the names stand at the front.
 -- Assumes nothing.
-use Rattle.builder.proofs.Putting.{put-front}
+use Rattle.code.proofs.Putting.{put-front}
 use Rattle.builder.specs.State.{kept}
 use Rattle.builder.specs.Names.{registerNamesOf}
 use borrow.Author.Needs.{needs}

@@ -1,7 +1,7 @@
 -- `builder::back::jump_to_core` meets its contract: each plan is what the model says.
 -- Assumes nothing.
 use Rattle.builder.proofs.JumpPlans.{jumped-to, to-goes, to-writes}
-use Rattle.builder.specs.Tables.{put}
+use Rattle.code.specs.Tables.{put}
 use Rattle.builder.specs.declared.JumpTarget.the-variants as T
 use Rattle.builder.specs.declared.plan.Plan.the-variants.{Go, Idle, Refuse}
 use Rattle.code.specs.Encode.{encode}

@@ -1,9 +1,9 @@
 -- `builder::forward::commit_jump` meets its contract: the jump as any instruction, and the mark's row.
 -- Assumes nothing.
 use Prim.Native.Nat.{_*_, _+_, _≤_}
-use Rattle.builder.proofs.Putting.{put-lent}
+use Rattle.code.proofs.Putting.{put-lent}
 use Rattle.builder.specs.Marks.{markRow, openKind}
-use Rattle.builder.specs.Tables.{markCells}
+use Rattle.code.specs.Tables.{markCells}
 use borrow.Author.Needs.{needs}
 use lib.ListN.{length}
 use mathlib.Core.Path.{refl}

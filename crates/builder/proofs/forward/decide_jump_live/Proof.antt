@@ -4,7 +4,7 @@ use Rattle.builder.proofs.JumpPlans.{ahead-live}
 use Rattle.builder.proofs.Plans.{lives-sound}
 use Rattle.builder.specs.declared.plan.Plan.{Plan}
 use Rattle.op.specs.declared.Table.the-variants.{Locations, Marks}
-use Rattle.builder.specs.Tables.{markCells, rowFree}
+use Rattle.code.specs.Tables.{markCells, room}
 use Rattle.builder.specs.Locations.{rowFits}
 use Rattle.builder.specs.Plan.{emittingOf}
 use Rattle.builder.specs.Forward.{jumpAsked, jumpPlanOf}
@@ -52,7 +52,7 @@ returns-2 c =
     let start = after-taken .before in
     let a = start .args in
     c .also-row .ensures
-    ∙ ap (λ (p : Plan). alsoRow p (rowFree markCells (a .core .marks) (a .ml)) Marks)
+    ∙ ap (λ (p : Plan). alsoRow p (room markCells (a .core .marks) (a .ml)) Marks)
     (after-also-location .also-location .ensures
     ∙ ap (λ (p : Plan). alsoRow p (rowFits (a .location) (a .core .locations) (a .ll)) Locations)
     (after-decide-bytes .decide-bytes .ensures))

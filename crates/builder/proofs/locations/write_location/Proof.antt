@@ -2,9 +2,9 @@
 -- Assumes nothing.
 use Prim.Native.Nat.{_*_, _+_, _/_, _<_, _≤_}
 use Rattle.builder.proofs.Emitted.{set-arm}
-use Rattle.builder.proofs.Putting.{length-lent, put-lent}
-use Rattle.builder.specs.Locations.{locationRow}
-use Rattle.builder.specs.Tables.{locationCells}
+use Rattle.code.proofs.Putting.{length-lent, put-lent}
+use Rattle.code.specs.Locations.{locationAt, locationNumbers}
+use Rattle.code.specs.Tables.{locationCells}
 use borrow.Author.Needs.{needs}
 use borrow.Author.Tests.{ltb-true}
 use lib.ListN.{length}
@@ -64,7 +64,7 @@ returns-2 c =
     let start = after-location .before .before .before in
     let a = start .args in
     let g = after-location .location .given in
-    let row = locationRow (a .at) (g .0 .0) (g .0 .1 .0) in
+    let row = locationNumbers (locationAt (a .at) (g .0 .0) (g .0 .1 .0)) in
     let h : a .rows * locationCells + length row ≤ length (a .locations .now) = omega (arith, free after-known-told) in
     set-arm (a .location) (g .0 .0) (g .0 .1 .0) (a .rows) (a .at) (a .locations .now) _ (g .1)
     (rw (after-write-row .write-row .ensures) (put-lent (a .rows * locationCells) row (a .locations .now) h))

@@ -1,7 +1,7 @@
 -- `builder::patch::commit_patch` meets its contract: the lent part comes back with the two bytes, and one cell changes.
 -- Assumes nothing.
 use Prim.Native.Nat.{_+_, _≤_}
-use Rattle.builder.proofs.Putting.{put-lent}
+use Rattle.code.proofs.Putting.{put-lent}
 use Rattle.code.specs.Bytes.{wordBytes}
 use borrow.Author.Needs.{needs}
 use lib.ListN.{length}

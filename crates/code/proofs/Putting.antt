@@ -8,9 +8,9 @@ use native.Mathlib.Omega.{arith}
 use borrow.Rule.Slice.PartMut.{putMid}
 use lib.ListN.{length, take, drop, length-take, length-drop, length-append}
 use lib.Seq.{drop-drop, take-at, length-take-le}
 use Rattle.code.specs.Bytes.{front}
 use Rattle.code.proofs.Stores.{lent}
-use Rattle.builder.specs.Tables.{put}
+use Rattle.code.specs.Tables.{put}
 
 -- a part from a to the end is lent, and comes back with xs at its front
 pub put-lent : (a : ℕ) (xs l : List ℕ) → a + length xs ≤ length l
