@@ -2,7 +2,7 @@
 -- taken-depth 5, 12 or 13, 11, 6, 7, 2, 4, 5, then 18 in the order code, locations, marks".
 -- Assumes nothing.
 use mathlib.Core.Bool.{Bool, true, false, _&&_}
-use Prim.Native.Nat.{ℕ, _-_}
+use Prim.Native.Nat.{ℕ}
 use lib.Dec.{leb, eqb}
 use Rattle.op.specs.Choice.{pick}
 use Rattle.op.specs.Opcodes.{known}
@@ -29,7 +29,7 @@ use Rattle.builder.specs.declared.plan.Entered.the-variants as E
 use Rattle.builder.specs.declared.plan.Plan.{Plan}
 use Rattle.builder.specs.declared.plan.Plan.the-variants.{Idle, Refuse, Go}
 use Rattle.code.specs.Locations.{locationsWithin}
-use Rattle.code.specs.Tables.{codeLimit, codeWithin, markCells, room, within, wordMax}
+use Rattle.code.specs.Tables.{codeRoom, codeWithin, markCells, room, within, wordMax}
 use Rattle.builder.specs.Locations.{rowFits}
 use Rattle.builder.specs.Marks.{bits, markSound, near, ofTarget}
 
@@ -104,8 +104,7 @@ sizeIn asked = sizeOf (operandShape (asked .operand)) (asked .names)
 
 -- 18 of the code, whose limit is 1,048,576 bytes
 abbrev pub codeFree : Asked → Bool
-codeFree asked =
-    leb (sizeIn asked) (asked .code - asked .core .code) && leb (sizeIn asked) (codeLimit - asked .core .code)
+codeFree asked = codeRoom (asked .core .code) (asked .code) (sizeIn asked)
 
 -- 18 of the locations: "Each live emission with a location set adds one location row"
 abbrev pub locationFree : Asked → Bool

@@ -3,7 +3,7 @@
 -- Assumes nothing.
 use mathlib.Core.Bool.{Bool, _&&_}
 use mathlib.Core.List.{List, _++_}
-use Prim.Native.Nat.{ℕ, _+_, _*_, _/_}
+use Prim.Native.Nat.{ℕ, _+_, _-_, _*_, _/_}
 use lib.Dec.{leb, ltb}
 use lib.ListN.{length, take, drop}
 use Rattle.op.specs.Depths.{deepest}
@@ -69,6 +69,10 @@ room width rows cells = ltb rows (cells / width)
 -- 18 of a table with one cell a row
 abbrev pub cellRoom : (used cells : ℕ) → Bool
 cellRoom used cells = ltb used cells
+
+-- 18 of the code: so many bytes more are left of what is lent, and of the limit
+abbrev pub codeRoom : (bytes cells size : ℕ) → Bool
+codeRoom bytes cells size = leb size (cells - bytes) && leb size (codeLimit - bytes)
 
 -- cells
 
