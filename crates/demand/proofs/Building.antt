@@ -61,7 +61,8 @@ builds fill w w′ m =
     go (buildOf (w .state) fill (w .names) (w .marks) .answer) refl (sym (ap (λ (t : Turn). t .answer) e)) (ap (λ (t : Turn). t .left) e)
   where
     go : (a : Answer) → buildOf (w .state) fill (w .names) (w .marks) .answer ≡ a → given a ≡ ok
-        → w′ ≡ world (after a (w .state)) (w .code) (w .locations) (w .exceptions) (w .constants) (buildOf (w .state) fill (w .names) (w .marks) .cells) (w .marks) (w .starts)
+        → w′ ≡ world (after a (w .state)) (w .code) (w .locations) (w .exceptions) (w .constants)
+        (buildOf (w .state) fill (w .names) (w .marks) .cells) (w .marks) (w .starts)
         → Builds w w′
     go (Refused r) p q l = absurd (let z : _≡_ {A = ℕ} 0 1 = cc in omega arith)
     go (Accepted n) p q l =

@@ -62,7 +62,8 @@ made-step current-jump-target w w′ g m = by-step current-jump-target m (ap (ta
 made-step (patch-jump l) w w′ g m = by-step (patch-jump l) m (ap (patches (lent m)) (m .keeps))
 made-step (new-code-region d f) w w′ g m = by-step (new-code-region d f) m (ap (opens (lent m)) (m .keeps))
 made-step (add-const v) w w′ g m = by-step (add-const v) m (ap (adds (lent m)) (m .keeps))
-made-step (add-exception-entry start end handler d n kind) w w′ g m = by-step (add-exception-entry start end handler d n kind) m (ap (enters (lent m)) (m .keeps))
+made-step (add-exception-entry start end handler d n kind) w w′ g m =
+    by-step (add-exception-entry start end handler d n kind) m (ap (enters (lent m)) (m .keeps))
 made-step (register-local-names ns) w w′ g m =
     rw (m .0 .holds) at (by-step (register-local-names (m .0 .slice .now)) (m .1) (ap (registers (lent (m .1))) (m .1 .keeps)))
 made-step (register-local-name slot name) w w′ g m = by-step (register-local-name slot name) m (ap (registers (lent m)) (m .keeps))

@@ -47,8 +47,9 @@ new = world (freshAt (Live 0) 1) (replicate 16 170) [] [] [] [] (replicate 8 7) 
 -- the patch; a second one, refused; no such opcode, refused; LoadNone; ReturnValue; a region at 2; a second one, refused; Pop; ReturnValue
 abbrev calls : List PublicCall
 calls =
-    current-jump-target ∷ emit′ 6 ∷ emit-jump 90 ∷ emit-i8 8 (pos 7) (omega arith) ∷ emit′ 0 ∷ emit′ 0 ∷ emit-jump-to 88 (T.Row 0) ∷ emit′ 5 ∷ patch-jump (L.Row 1) ∷ patch-jump (L.Row 1) ∷
-    emit′ 200 ∷ emit′ 5 ∷ emit′ 101 ∷ new-code-region 2 (omega arith) ∷ new-code-region 3 (omega arith) ∷ emit′ 0 ∷ stack-depth ∷ emit′ 101 ∷ []
+    current-jump-target ∷ emit′ 6 ∷ emit-jump 90 ∷ emit-i8 8 (pos 7) (omega arith) ∷ emit′ 0 ∷ emit′ 0 ∷
+    emit-jump-to 88 (T.Row 0) ∷ emit′ 5 ∷ patch-jump (L.Row 1) ∷ patch-jump (L.Row 1) ∷ emit′ 200 ∷ emit′ 5 ∷
+    emit′ 101 ∷ new-code-region 2 (omega arith) ∷ new-code-region 3 (omega arith) ∷ emit′ 0 ∷ stack-depth ∷ emit′ 101 ∷ []
 
 -- the calls one after another, each as its contract has it
 abbrev run : Run → List PublicCall → Run

@@ -39,35 +39,59 @@ turn w a = record { left = w; answer = a }
 
 -- code and locations
 abbrev pub emits : World → Outcome → Turn
-emits w x = turn (world (after (x .answer) (w .state)) (x .code) (x .locations) (w .exceptions) (w .constants) (w .names) (w .marks) (w .starts)) (given (x .answer))
+emits w x =
+    turn
+    (world (after (x .answer) (w .state)) (x .code) (x .locations) (w .exceptions) (w .constants) (w .names) (w .marks) (w .starts))
+    (given (x .answer))
 
 -- code, locations and marks
 abbrev pub jumps : World → JumpOutcome → Turn
-jumps w x = turn (world (afterJump (x .answer) (w .state)) (x .code) (x .locations) (w .exceptions) (w .constants) (w .names) (x .marks) (w .starts)) (givenJump (x .answer))
+jumps w x =
+    turn
+    (world (afterJump (x .answer) (w .state)) (x .code) (x .locations) (w .exceptions) (w .constants) (w .names) (x .marks) (w .starts))
+    (givenJump (x .answer))
 
 -- marks
 abbrev pub targets : World → TargetOutcome → Turn
-targets w x = turn (world (afterTarget (x .answer) (w .state)) (w .code) (w .locations) (w .exceptions) (w .constants) (w .names) (x .marks) (w .starts)) (givenTarget (x .answer))
+targets w x =
+    turn
+    (world (afterTarget (x .answer) (w .state)) (w .code) (w .locations) (w .exceptions) (w .constants) (w .names) (x .marks) (w .starts))
+    (givenTarget (x .answer))
 
 -- code and marks
 abbrev pub patches : World → PatchOutcome → Turn
-patches w x = turn (world (after (x .answer) (w .state)) (x .code) (w .locations) (w .exceptions) (w .constants) (w .names) (x .marks) (w .starts)) (given (x .answer))
+patches w x =
+    turn
+    (world (after (x .answer) (w .state)) (x .code) (w .locations) (w .exceptions) (w .constants) (w .names) (x .marks) (w .starts))
+    (given (x .answer))
 
 -- starts
 abbrev pub opens : World → Kept → Turn
-opens w x = turn (world (after (x .answer) (w .state)) (w .code) (w .locations) (w .exceptions) (w .constants) (w .names) (w .marks) (x .cells)) (given (x .answer))
+opens w x =
+    turn
+    (world (after (x .answer) (w .state)) (w .code) (w .locations) (w .exceptions) (w .constants) (w .names) (w .marks) (x .cells))
+    (given (x .answer))
 
 -- constants
 abbrev pub adds : World → AddedKept → Turn
-adds w x = turn (world (afterConst (x .answer) (w .state)) (w .code) (w .locations) (w .exceptions) (x .cells) (w .names) (w .marks) (w .starts)) (givenConst (x .answer))
+adds w x =
+    turn
+    (world (afterConst (x .answer) (w .state)) (w .code) (w .locations) (w .exceptions) (x .cells) (w .names) (w .marks) (w .starts))
+    (givenConst (x .answer))
 
 -- exceptions
 abbrev pub enters : World → Kept → Turn
-enters w x = turn (world (after (x .answer) (w .state)) (w .code) (w .locations) (x .cells) (w .constants) (w .names) (w .marks) (w .starts)) (given (x .answer))
+enters w x =
+    turn
+    (world (after (x .answer) (w .state)) (w .code) (w .locations) (x .cells) (w .constants) (w .names) (w .marks) (w .starts))
+    (given (x .answer))
 
 -- names
 abbrev pub registers : World → Kept → Turn
-registers w x = turn (world (after (x .answer) (w .state)) (w .code) (w .locations) (w .exceptions) (w .constants) (x .cells) (w .marks) (w .starts)) (given (x .answer))
+registers w x =
+    turn
+    (world (after (x .answer) (w .state)) (w .code) (w .locations) (w .exceptions) (w .constants) (x .cells) (w .marks) (w .starts))
+    (given (x .answer))
 
 -- none
 abbrev pub sets : World → Builder → Turn

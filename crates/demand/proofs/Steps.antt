@@ -74,7 +74,8 @@ wide-load slot h =
       lt-leb slot 3 h,
     ) (go (leb slot 255))
   where
-    go : (t : Bool) → pick t (emit LoadLocal (O.U8 slot) []) (emit LoadLocalW (O.U16 slot) []) ≡ emit (pick t LoadLocal LoadLocalW) (pick t (O.U8 slot) (O.U16 slot)) []
+    go : (t : Bool) → pick t (emit LoadLocal (O.U8 slot) []) (emit LoadLocalW (O.U16 slot) [])
+        ≡ emit (pick t LoadLocal LoadLocalW) (pick t (O.U8 slot) (O.U16 slot)) []
     go true = refl
     go false = refl
 
@@ -88,7 +89,8 @@ load-kind (suc (suc (suc (suc n)))) = wide-load (suc (suc (suc (suc n)))) (omega
 pub store-kind : (slot : ℕ) → stores slot ≡ emit (storeOp slot) (storeOperand slot) []
 store-kind slot = go (leb slot 255)
   where
-    go : (t : Bool) → pick t (emit StoreLocal (O.U8 slot) []) (emit StoreLocalW (O.U16 slot) []) ≡ emit (pick t StoreLocal StoreLocalW) (pick t (O.U8 slot) (O.U16 slot)) []
+    go : (t : Bool) → pick t (emit StoreLocal (O.U8 slot) []) (emit StoreLocalW (O.U16 slot) [])
+        ≡ emit (pick t StoreLocal StoreLocalW) (pick t (O.U8 slot) (O.U16 slot)) []
     go true = refl
     go false = refl
 

@@ -54,7 +54,8 @@ finish w w′ h i t B =
     let es : regionStarts w ≡ cells (view w .starts) = cells-tab (w .state .starts) (w .starts) (i .starts) in
     let en : length (finished w) ≡ h .end = tied-end (view w) h t in
     let short : h .end ≤ codeLimit = omega (arith, B .limit, length-take-le (w .state .core .code) (w .code) (i .code)) in
-    let accepts : (d d′ : List ℕ) (r : Checked) → length (finished w′) < length d → Promise lastOpcode (finished w′) (regionStarts w′) d d′ r → Accepts w′ h r d′ =
+    let accepts : (d d′ : List ℕ) (r : Checked) → length (finished w′) < length d
+    → Promise lastOpcode (finished w′) (regionStarts w′) d d′ r → Accepts w′ h r d′ =
     rw (B .state, B .code, B .starts) (checked-at b g c (finished w) (regionStarts w) (length (finished w)) ec es en short) in
     record {
       unchanged = (B .state, B .code, B .starts);

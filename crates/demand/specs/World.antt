@@ -215,9 +215,13 @@ Made (emit-call-builtin-function a n) w =
 Made (emit-call-builtin-type a n) w =
     By emit-call-builtin-type-says (λ t. (w .state, (a, (n, (t .code, (t .locations, tt)))))) given emission w
 Made (emit-call-function-kw p ns) w =
-    λ g w′. (names : Holding ns) × By emit-call-function-kw-says (λ t. (w .state, (p, (names .slice, (t .code, (t .locations, tt)))))) given emission w g w′
+    λ g w′. (names : Holding ns)
+    × By emit-call-function-kw-says (λ t. (w .state, (p, (names .slice, (t .code, (t .locations, tt))))))
+    given emission w g w′
 Made (emit-call-attr-kw a p ns) w =
-    λ g w′. (names : Holding ns) × By emit-call-attr-kw-says (λ t. (w .state, (a, (p, (names .slice, (t .code, (t .locations, tt))))))) given emission w g w′
+    λ g w′. (names : Holding ns)
+    × By emit-call-attr-kw-says (λ t. (w .state, (a, (p, (names .slice, (t .code, (t .locations, tt)))))))
+    given emission w g w′
 Made (emit-raise-unbound-local name) w =
     By emit-raise-unbound-local-says (λ t. (w .state, (name, (t .code, (t .locations, tt))))) given emission w
 Made (emit-load-global-callable slot name) w =
@@ -239,7 +243,9 @@ Made (add-const v) w = By add-const-says (λ t. (w .state, (v, (t .constants, tt
 Made (add-exception-entry start end handler d n kind) w =
     By add-exception-entry-says (λ t. (w .state, (start, (end, (handler, (d, (n, (kind, (t .exceptions, tt))))))))) given catching w
 Made (register-local-names ns) w =
-    λ g w′. (names : Holding ns) × By register-local-names-says (λ t. (w .state, (names .slice, (t .names, tt)))) given naming w g w′
+    λ g w′. (names : Holding ns)
+    × By register-local-names-says (λ t. (w .state, (names .slice, (t .names, tt))))
+    given naming w g w′
 Made (register-local-name slot name) w =
     By register-local-name-says (λ t. (w .state, (slot, (name, (t .names, tt))))) given naming w
 Made (build fill) w = By build-says (λ t. (w .state, (fill, (t .names, (t .marks, tt))))) given naming w
