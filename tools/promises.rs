@@ -258,10 +258,15 @@ fn words(text: &str) -> Vec<(usize, &str)> {
 /// Each `fn NAME` of a text without comments.
 fn functions(text: &str) -> Vec<Function<'_>> {
     let words = words(text);
+    // The type's name is the first behind `impl` that begins with a capital: lifetimes may stand before it.
     let blocks: Vec<(usize, usize, &str)> = words
-        .windows(2)
-        .filter(|pair| pair[0].1 == "impl")
-        .map(|pair| (pair[0].0, pair[0].0 + end_of_braces(&text[pair[0].0..]), pair[1].1))
+        .iter()
+        .enumerate()
+        .filter(|(_, (_, word))| *word == "impl")
+        .filter_map(|(i, (from, _))| {
+            let owner = words[i + 1..].iter().map(|(_, word)| *word).find(|word| word.starts_with(char::is_uppercase))?;
+            Some((*from, from + end_of_braces(&text[*from..]), owner))
+        })
         .collect();
     let pairs = words
         .windows(2)
