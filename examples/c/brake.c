@@ -1,6 +1,6 @@
 /* Builds the brake rule: the limit of a wet or of a dry road, then the measured stopping distance, compared. Prints its
- * instructions with the depth of the stack before each. Then builds it with the fault that once printed wrong reports, the
- * limit left on the stack twice on a wet road: the builder refuses to join the two branches.
+ * instructions with the depth of the stack before each. Then builds it with the fault that once printed wrong reports,
+ * the limit left on the stack twice on a wet road: the builder refuses to join the two branches.
  *
  * Usage: brake
  * Exit status: 0 where the rule is built and the broken one is not, else 1. */

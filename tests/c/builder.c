@@ -1,5 +1,5 @@
-/* Calls the builder from C as a compiler would, by each function of the header: the brake rule, the rules' examples, each
- * emission, and each refusal, which has to leave all that is lent as it was.
+/* Calls the builder from C as a compiler would, by each function of the header: the brake rule, the rules' examples,
+ * each emission, and each refusal, which has to leave all that is lent as it was.
  *
  * Usage: builder FILE           (the brake rule's bytes)
  * Prints a line for each check that fails, then the counts; exit status 1 where one failed. */
@@ -85,7 +85,8 @@ static void brake(const uint8_t *rule, size_t length)
     accepted("built", tf_build(&b, 0));
     report("the labels and constants", dry.row == 0 && join.row == 1 && wet_limit == 0 && dry_limit == 1);
     report("the brake rule's bytes", length == 16 && bytes_are(rule, length));
-    report("its start", b.state.starts == 1 && memcmp(b.starts, starts, sizeof starts) == 0 && blank_from(TF_TABLE_STARTS, 2));
+    report("its start", b.state.starts == 1 && memcmp(b.starts, starts, sizeof starts) == 0);
+    report("and no other", blank_from(TF_TABLE_STARTS, TF_START_CELLS));
     report("its constants", b.state.constants == 2 && b.constants[0] == 41 && b.constants[1] == 27);
     report("it checks", tf_check(b.code, 16, b.starts, 2, depth, 65) == 8);
     for (size_t i = 0; i < sizeof places / sizeof places[0]; i++)
@@ -251,6 +252,7 @@ static void locations(void)
 /* A loop over what an iterator gives. */
 static void loop(void)
 {
+    static const uint32_t rows[] = {3, 0, 1, 0, 1, 0, 0, 0};
     tf_label end = {77};
     tf_target top = {77};
     begin(1);
@@ -258,7 +260,7 @@ static void loop(void)
     accepted("ForIter", tf_emit_jump(&b, TF_OP_FOR_ITER, &end));
     expect("ForIter falls through", 3, 2);
     report("their marks", top.row == 0 && end.row == 1 && b.state.marks == 2);
-    report("in their rows", memcmp(b.marks, (uint32_t[]){3, 0, 1, 0, 1, 0, 0, 0}, 32) == 0 && blank_from(TF_TABLE_MARKS, 8));
+    report("in their rows", memcmp(b.marks, rows, sizeof rows) == 0 && blank_from(TF_TABLE_MARKS, 8));
     accepted("the item", tf_emit(&b, TF_OP_POP));
     accepted("back", tf_emit_jump_to(&b, TF_OP_JUMP, top));
     expect("dead behind it", 7, TF_NO_DEPTH);
@@ -393,14 +395,16 @@ static void limits(void)
 static void names(void)
 {
     static const uint32_t three[] = {5, UINT32_MAX, 0};
-    static const uint64_t cells[] = {6, (uint64_t)UINT32_MAX + 1, 1, 0, 10}, built[] = {6, (uint64_t)UINT32_MAX + 1, 1, 8, 10};
+    static const uint64_t largest = (uint64_t)UINT32_MAX + 1;
+    const uint64_t cells[] = {6, largest, 1, 0, 10}, built[] = {6, largest, 1, 8, 10};
     begin(0);
     accepted("three names", tf_register_local_names(&b, three, 3));
     refused("names again", tf_register_local_names(&b, three, 3), TF_NAMES_HELD, 0);
     accepted("the first name stays", tf_register_local_name(&b, 1, 9));
     accepted("slot 4 has one", tf_register_local_name(&b, 4, 9));
     refused("slot 6 is past the table", tf_register_local_name(&b, 6, 9), TF_FULL, TF_TABLE_NAMES);
-    report("the cells", b.state.names == 5 && memcmp(b.names, cells, sizeof cells) == 0 && blank_from(TF_TABLE_NAMES, 5));
+    report("the cells", b.state.names == 5 && memcmp(b.names, cells, sizeof cells) == 0);
+    report("no more", blank_from(TF_TABLE_NAMES, 5));
     accepted("built", tf_build(&b, 7));
     report("slot 3 is filled", memcmp(b.names, built, sizeof built) == 0 && blank_from(TF_TABLE_NAMES, 5));
     begin(0);
@@ -464,8 +468,10 @@ static void growing(void)
         report("then it is accepted", a == 0);
     }
     report("all of it is there", b.state.code == 200 && b.state.locations == 100);
-    for (size_t i = 0; i < 100; i++)
-        report("in its order", b.code[2 * i] == TF_OP_LOAD_LOCAL && b.code[2 * i + 1] == i && b.locations[6 * i] == 2 * i);
+    for (size_t i = 0; i < 100; i++) {
+        report("in its order", b.code[2 * i] == TF_OP_LOAD_LOCAL && b.code[2 * i + 1] == i);
+        report("with its location", b.locations[TF_LOCATION_CELLS * i] == 2 * i);
+    }
 }
 
 int main(int count, char **words)

@@ -214,7 +214,8 @@ static void handlers(void)
     nothing("offset 10", tf_find_exception_handler(rows, length, 10, fresh(), CELLS));
     nothing("offset 10 wants no room", tf_find_exception_handler(rows, length, 10, NULL, 0));
     nothing("no rows", tf_find_exception_handler(NULL, 0, 1, fresh(), CELLS));
-    refused("too little room", tf_find_exception_handler(rows, length, 2, fresh(), TF_ROW_CELLS - 1), TF_FULL, TF_TABLE_TEXT);
+    refused("too little room", tf_find_exception_handler(rows, length, 2, fresh(), TF_ROW_CELLS - 1), TF_FULL,
+            TF_TABLE_TEXT);
     report("the handler's offset has a name", inner[TF_HANDLER_OFFSET] == 20 && outer[TF_HANDLER_KIND] == 1);
 }
 
@@ -229,7 +230,8 @@ static void locations(void)
     wrote("behind the part of a row", tf_location_for_offset(rows, length, 9, fresh(), CELLS), last, TF_ROW_CELLS);
     wrote("at the largest offset", tf_location_for_offset(rows, length, UINT32_MAX, fresh(), CELLS), last, TF_ROW_CELLS);
     nothing("above it", tf_location_for_offset(rows, length, (size_t)UINT32_MAX + 1, fresh(), CELLS));
-    refused("too little room", tf_location_for_offset(rows, length, 3, fresh(), TF_ROW_CELLS - 1), TF_FULL, TF_TABLE_TEXT);
+    refused("too little room", tf_location_for_offset(rows, length, 3, fresh(), TF_ROW_CELLS - 1), TF_FULL,
+            TF_TABLE_TEXT);
 }
 
 static void constants_and_names(void)

@@ -1,5 +1,5 @@
-/* Arrays to lend. Behind each stands a page that can't be read or written, so that a call which goes one element too far
- * ends the program; before each stands a guard. What is lent is remembered, so that a changed element is seen. */
+/* Arrays to lend. Behind each stands a page that can't be read or written, so that a call which goes one element too
+ * far ends the program; before each stands a guard. What is lent is remembered, so that a changed element is seen. */
 #ifndef FENCES_H
 #define FENCES_H
 
@@ -67,7 +67,10 @@ static void remember(void)
 }
 
 /* Whether an array, or each, is as it was remembered. */
-static int kept(int i) { return memcmp(lent[i].was, lent[i].fence - lent_bytes(i) - GUARD, lent_bytes(i) + GUARD) == 0; }
+static int kept(int i)
+{
+    return memcmp(lent[i].was, lent[i].fence - lent_bytes(i) - GUARD, lent_bytes(i) + GUARD) == 0;
+}
 
 static int all_kept(void)
 {

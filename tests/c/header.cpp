@@ -1,5 +1,5 @@
-// The header as C++ has it: builds a rule of one comparison through the inline functions and checks it. Without a line of
-// the C++ library, so that a C linker suffices. Exit status 1 where the bytes or the depths are not as expected.
+// The header as C++ has it: builds a rule of one branch through the inline functions and checks it. It uses nothing of
+// the C++ library, so that a C compiler can link it. Exit status 1 where the bytes or the depths are not as expected.
 #include "tokenfinch.h"
 
 namespace {
@@ -47,8 +47,10 @@ bool as_expected()
     for (size_t i = 0; i < sizeof bytes; i++)
         if (rule.code[i] != bytes[i])
             return false;
-    return tf_check(rule.code, sizeof bytes, rule.starts, TF_START_CELLS, depths, sizeof bytes + 1) == 3 && depths[4] == 1
-        && tf_current_position(&rule.b).end == 20 && rule.b.state.locations == 3;
+    if (tf_current_position(&rule.b).end != 20 || rule.b.state.locations != 3)
+        return false;
+    tf_answer checked = tf_check(rule.code, sizeof bytes, rule.starts, TF_START_CELLS, depths, sizeof bytes + 1);
+    return checked == 3 && depths[4] == 1;
 }
 
 }

@@ -8,8 +8,10 @@
 enum { VALUE, CODE, LOCATIONS, MARKS, DEPTH, EXCEPTIONS, CONSTANTS, NAMES, STARTS, HAS_LOCATION, START, END, HAS_FOCUS,
        FOCUS_START, FOCUS_END, CLAUSE, TABLE };
 
-enum { NEW, SET_LOCATION, EMIT, EMIT_JUMP, PATCH_JUMP, EMIT_JUMP_TO, TARGET, NAME_ALL, NAME, CONST, EXCEPTION, REGION, BUILD,
-       LOOK, EXPORTS };
+enum { NEW, SET_LOCATION, EMIT, EMIT_JUMP, PATCH_JUMP, EMIT_JUMP_TO, TARGET, NAME_ALL, NAME, CONST, EXCEPTION, REGION,
+       BUILD, LOOK, EXPORTS };
+
+enum { UNWRITTEN = 77 };
 
 /* An array as two arguments. */
 #define LENT(type, table) (type *)lent_at(table), lent[table].length
@@ -30,8 +32,8 @@ static tf_answer call(int export)
                              LENT(uint32_t, TF_TABLE_MARKS));
     case PATCH_JUMP: return tfb_patch_jump(0, STATE_LENT, LENT(uint8_t, TF_TABLE_CODE), LENT(uint32_t, TF_TABLE_MARKS));
     case EMIT_JUMP_TO:
-        return tfb_emit_jump_to(TF_OP_JUMP, 1, STATE_LENT, LENT(uint8_t, TF_TABLE_CODE), LENT(uint32_t, TF_TABLE_LOCATIONS),
-                                LENT(uint32_t, TF_TABLE_MARKS));
+        return tfb_emit_jump_to(TF_OP_JUMP, 1, STATE_LENT, LENT(uint8_t, TF_TABLE_CODE),
+                                LENT(uint32_t, TF_TABLE_LOCATIONS), LENT(uint32_t, TF_TABLE_MARKS));
     case TARGET: return tfb_current_jump_target(STATE_LENT, LENT(uint32_t, TF_TABLE_MARKS));
     case NAME_ALL: return tfb_register_local_names(three, 3, STATE_LENT, LENT(uint64_t, TF_TABLE_NAMES));
     case NAME: return tfb_register_local_name(2, 9, STATE_LENT, LENT(uint64_t, TF_TABLE_NAMES));
@@ -43,23 +45,23 @@ static tf_answer call(int export)
     }
 }
 
-/* What each function is lent, with just the room that it takes (0: it is not lent that table), and whether it refuses one
- * element less by 18, as room that it lacks, or by 19, as rows that are not there. */
-static const struct { const char *what; size_t lengths[ARRAYS]; uint32_t less[ARRAYS]; } exports[EXPORTS] = {
+/* What each function is lent, with just the room that it takes (0: it is not lent that table); whether it refuses one
+ * element less by 18, as room that it lacks, or by 19, as rows that are not there; and what it answers. */
+static const struct { const char *what; size_t lengths[ARRAYS]; uint32_t less[ARRAYS], value; } exports[EXPORTS] = {
     [NEW] = {"new", {[TF_TABLE_STARTS] = 2}, {[TF_TABLE_STARTS] = 18}},
     [SET_LOCATION] = {"set_location", {0}, {0}},
     [EMIT] = {"emit", {0, 5, 12}, {0, 18, 18}},
-    [EMIT_JUMP] = {"emit_jump", {0, 7, 12, [TF_TABLE_MARKS] = 12}, {0, 18, 18, [TF_TABLE_MARKS] = 18}},
+    [EMIT_JUMP] = {"emit_jump", {0, 7, 12, [TF_TABLE_MARKS] = 12}, {0, 18, 18, [TF_TABLE_MARKS] = 18}, 2},
     [PATCH_JUMP] = {"patch_jump", {0, 4, [TF_TABLE_MARKS] = 8}, {0, 19, [TF_TABLE_MARKS] = 19}},
     [EMIT_JUMP_TO] = {"emit_jump_to", {0, 7, 12, [TF_TABLE_MARKS] = 8}, {0, 18, 18, [TF_TABLE_MARKS] = 19}},
-    [TARGET] = {"current_jump_target", {[TF_TABLE_MARKS] = 12}, {[TF_TABLE_MARKS] = 18}},
+    [TARGET] = {"current_jump_target", {[TF_TABLE_MARKS] = 12}, {[TF_TABLE_MARKS] = 18}, 2},
     [NAME_ALL] = {"register_local_names", {[TF_TABLE_NAMES] = 3}, {[TF_TABLE_NAMES] = 18}},
     [NAME] = {"register_local_name", {[TF_TABLE_NAMES] = 3}, {[TF_TABLE_NAMES] = 18}},
-    [CONST] = {"add_const", {[TF_TABLE_CONSTANTS] = 2}, {[TF_TABLE_CONSTANTS] = 18}},
+    [CONST] = {"add_const", {[TF_TABLE_CONSTANTS] = 2}, {[TF_TABLE_CONSTANTS] = 18}, 1},
     [EXCEPTION] = {"add_exception_entry", {[TF_TABLE_EXCEPTIONS] = 12}, {[TF_TABLE_EXCEPTIONS] = 18}},
     [REGION] = {"new_code_region", {[TF_TABLE_STARTS] = 4}, {[TF_TABLE_STARTS] = 18}},
     [BUILD] = {"build", {[TF_TABLE_NAMES] = 1, [TF_TABLE_MARKS] = 8}, {[TF_TABLE_NAMES] = 19, [TF_TABLE_MARKS] = 19}},
-    [LOOK] = {"look", {[TF_TABLE_TEXT] = 5}, {[TF_TABLE_TEXT] = 18}},
+    [LOOK] = {"look", {[TF_TABLE_TEXT] = 5}, {[TF_TABLE_TEXT] = 18}, UNWRITTEN},
 };
 
 static uint64_t *state(void) { return lent_at(STATE); }
@@ -68,7 +70,7 @@ static uint64_t *state(void) { return lent_at(STATE); }
  * table but two in marks, a label at offset 0 and a target there. */
 static void lend_builder(int export, size_t more)
 {
-    static const uint64_t cells[TF_STATE_CELLS] = {77, 4, 1, 2, 2, 1, 1, 1, 1, 1, 5, 6, 1, 7, 8, 0xC1A05E, 0x7AB1E};
+    static const uint64_t cells[TF_STATE_CELLS] = {UNWRITTEN, 4, 1, 2, 2, 1, 1, 1, 1, 1, 5, 6, 1, 7, 8, 111, 222};
     const uint32_t marks[] = {export == BUILD ? 2 : 1, 0, 2, 0, 3, 0, 2, 0};
     lend(STATE, TF_STATE_CELLS);
     for (int i = TF_TABLE_CODE; i < ARRAYS; i++)
@@ -116,6 +118,7 @@ static void lengths(int export)
     lend_builder(export, 0);
     accepted(export, "just enough", call(export));
     memcpy(exact, state(), sizeof exact);
+    report("what it answers", exact[VALUE] == exports[export].value);
     for (size_t more = 1; more < 100; more += 7) {
         lend_builder(export, more);
         accepted(export, "more than enough", call(export));
@@ -200,15 +203,18 @@ static void tampered_cells(int export)
         tampered(export, "a cell that is not read", unread[i], UINT64_MAX, 0);
 }
 
-/* What an absent location or focus leaves in its cells is not read. */
+/* What stands in the cells of an absent location or focus is not read. A call that writes all cells leaves 0 there. */
 static void absent(int export)
 {
+    uint64_t left = own_cells(export) == CLAUSE ? 0 : UINT64_MAX;
     lend_builder(export, 0);
     state()[HAS_LOCATION] = 0;
     for (int i = START; i <= FOCUS_END; i++)
         state()[i] = UINT64_MAX;
     remember();
     accepted(export, "no location", call(export));
+    for (int i = START; i <= FOCUS_END && export != SET_LOCATION; i++)
+        report("in its cells", state()[i] == left);
     lend_builder(export, 0);
     state()[HAS_FOCUS] = 0;
     state()[FOCUS_START] = state()[FOCUS_END] = UINT64_MAX;
@@ -221,9 +227,11 @@ static void nulls(int export)
 {
     static const struct { uint32_t number, named; } expected[EXPORTS] = {
         [NEW] = {TF_FULL, TF_TABLE_STARTS}, [EMIT] = {TF_FULL, TF_TABLE_CODE}, [EMIT_JUMP] = {TF_FULL, TF_TABLE_CODE},
-        [PATCH_JUMP] = {TF_NO_SUCH_MARK, 0}, [EMIT_JUMP_TO] = {TF_NO_SUCH_MARK, 0}, [TARGET] = {TF_FULL, TF_TABLE_MARKS},
-        [NAME_ALL] = {TF_FULL, TF_TABLE_NAMES}, [NAME] = {TF_FULL, TF_TABLE_NAMES}, [CONST] = {TF_FULL, TF_TABLE_CONSTANTS},
-        [EXCEPTION] = {TF_FULL, TF_TABLE_EXCEPTIONS}, [REGION] = {TF_FULL, TF_TABLE_STARTS}, [LOOK] = {TF_FULL, TF_TABLE_TEXT},
+        [PATCH_JUMP] = {TF_NO_SUCH_MARK, 0}, [EMIT_JUMP_TO] = {TF_NO_SUCH_MARK, 0},
+        [TARGET] = {TF_FULL, TF_TABLE_MARKS}, [NAME_ALL] = {TF_FULL, TF_TABLE_NAMES},
+        [NAME] = {TF_FULL, TF_TABLE_NAMES}, [CONST] = {TF_FULL, TF_TABLE_CONSTANTS},
+        [EXCEPTION] = {TF_FULL, TF_TABLE_EXCEPTIONS}, [REGION] = {TF_FULL, TF_TABLE_STARTS},
+        [LOOK] = {TF_FULL, TF_TABLE_TEXT},
     };
     for (int i = STATE; i < ARRAYS; i++)
         lend(i, 0);
@@ -239,7 +247,8 @@ static void nulls(int export)
 }
 
 /* An emission by its number, of a builder that has room for all. */
-static tf_answer emit(uint8_t number, uint8_t opcode, uint16_t a, uint32_t b, uint8_t c, const uint16_t *names, size_t count)
+static tf_answer emit(uint8_t number, uint8_t opcode, uint16_t a, uint32_t b, uint8_t c, const uint16_t *names,
+                      size_t count)
 {
     remember();
     return tfb_emit(number, opcode, a, b, c, names, count, STATE_LENT, LENT(uint8_t, TF_TABLE_CODE),
@@ -250,8 +259,8 @@ static tf_answer emit(uint8_t number, uint8_t opcode, uint16_t a, uint32_t b, ui
 static void large_arguments(void)
 {
     static const struct { uint8_t call; uint16_t a; uint32_t b; } large[] = {
-        {17, 0, 0}, {255, 0, 0}, {TF_CALL_U8, 256, 0}, {TF_CALL_I8, 256, 0}, {TF_CALL_U8_U8, 256, 0}, {TF_CALL_U8_U8, 0, 256},
-        {TF_CALL_U16_U16, 0, 65536}, {TF_CALL_U16_U8, 0, 256}, {TF_CALL_U16_U8_U8, 0, 256},
+        {17, 0, 0}, {255, 0, 0}, {TF_CALL_U8, 256, 0}, {TF_CALL_I8, 256, 0}, {TF_CALL_U8_U8, 256, 0},
+        {TF_CALL_U8_U8, 0, 256}, {TF_CALL_U16_U16, 0, 65536}, {TF_CALL_U16_U8, 0, 256}, {TF_CALL_U16_U8_U8, 0, 256},
         {TF_CALL_CALL_BUILTIN_FUNCTION, 256, 0}, {TF_CALL_CALL_BUILTIN_FUNCTION, 0, UINT32_MAX},
         {TF_CALL_CALL_BUILTIN_TYPE, 256, 0}, {TF_CALL_CALL_BUILTIN_TYPE, 0, 256}, {TF_CALL_CALL_FUNCTION_KW, 256, 0},
         {TF_CALL_CALL_ATTR_KW, 0, 256},
@@ -269,8 +278,8 @@ static void large_arguments(void)
     lend_builder(SET_LOCATION, 0);
     refused(SET_LOCATION, "has_focus", tfb_set_location(1, 2, 2, 3, 4, STATE_LENT), TF_WRONG_SHAPE, 0);
     lend_builder(EXCEPTION, 0);
-    refused(EXCEPTION, "kind", tfb_add_exception_entry(1, 2, 3, 4, 5, 2, STATE_LENT, LENT(uint32_t, TF_TABLE_EXCEPTIONS)),
-            TF_WRONG_SHAPE, 0);
+    tf_answer answer = tfb_add_exception_entry(1, 2, 3, 4, 5, 2, STATE_LENT, LENT(uint32_t, TF_TABLE_EXCEPTIONS));
+    refused(EXCEPTION, "kind", answer, TF_WRONG_SHAPE, 0);
 }
 
 /* Arguments that a call does not use are not looked at; names are, where it takes none and the code is live. */
@@ -288,6 +297,15 @@ static void unused_arguments(void)
     lend_builder(SET_LOCATION, 0);
     report("without a focus", tfb_set_location(1, 2, 0, 3, 4, STATE_LENT) == 0);
     report("none is set", state()[HAS_FOCUS] == 0 && state()[FOCUS_START] == 0 && state()[FOCUS_END] == 0);
+}
+
+static void looked(void)
+{
+    static const uint64_t live[] = {4, 2, 0, 5, 6}, dead[] = {4, TF_NO_DEPTH, 1, 0, 0};
+    lend_builder(LOOK, 3);
+    report("a look", call(LOOK) == 0 && memcmp(lent_at(TF_TABLE_TEXT), live, sizeof live) == 0);
+    state()[DEPTH] = TF_NO_DEPTH, state()[HAS_LOCATION] = 0;
+    report("a look at dead code", call(LOOK) == 0 && memcmp(lent_at(TF_TABLE_TEXT), dead, sizeof dead) == 0);
 }
 
 static void marked(int export, const char *what, uint32_t number)
@@ -330,9 +348,10 @@ static uint64_t random_number(void)
 /* Small and honest most of the time, else one at some border. */
 static uint64_t any_number(void)
 {
-    static const uint64_t borders[] = {0, 1, 2, 255, 256, 65535, 65536, 65537, 1048576, 1048577, UINT32_MAX,
-                                       (uint64_t)UINT32_MAX + 1, UINT64_MAX / 6, UINT64_MAX / 4, UINT64_MAX - 1, UINT64_MAX};
-    return random_number() % 4 != 0 ? random_number() % 6 : borders[random_number() % (sizeof borders / sizeof borders[0])];
+    static const uint64_t borders[16] = {0, 1, 2, 255, 256, 65535, 65536, 65537, 1048576, 1048577, UINT32_MAX,
+                                         (uint64_t)UINT32_MAX + 1, UINT64_MAX / 6, UINT64_MAX / 4, UINT64_MAX - 1,
+                                         UINT64_MAX};
+    return random_number() % 4 != 0 ? random_number() % 6 : borders[random_number() % 16];
 }
 
 static tf_answer any_emission(void)
@@ -351,8 +370,9 @@ static void anything(int rounds)
         lend_builder(export, random_number() % 8);
         for (uint64_t changes = random_number() % 4; changes > 0; changes--)
             state()[random_number() % TF_STATE_CELLS] = any_number();
-        for (uint64_t changes = random_number() % 3; changes > 0 && lent[TF_TABLE_MARKS].length > 0; changes--)
-            ((uint32_t *)lent_at(TF_TABLE_MARKS))[random_number() % lent[TF_TABLE_MARKS].length] = (uint32_t)any_number();
+        uint32_t *marks = lent_at(TF_TABLE_MARKS);
+        for (uint64_t changes = random_number() % 3; changes > 0 && marks != NULL; changes--)
+            marks[random_number() % lent[TF_TABLE_MARKS].length] = (uint32_t)any_number();
         int table = (int)(random_number() % ARRAYS);
         if (random_number() % 2 == 0 && lent[table].length > 0)
             relend(table, random_number() % lent[table].length);
@@ -377,6 +397,7 @@ int main(void)
     }
     large_arguments();
     unused_arguments();
+    looked();
     tampered_marks();
     anything(20000);
     drop_fences();
