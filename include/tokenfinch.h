@@ -343,8 +343,9 @@ typedef struct tf_range { uint32_t start, end; } tf_range;
 enum { TF_CONSUMING = 0, TF_CLEANUP = 1 };
 
 /* The library's own functions, for callers in other languages; in C use those below. state is TF_STATE_CELLS numbers
- * in tf_state's order, and what a call answers stands in state[0] behind it. Behind 19 they refuse by 2 an argument that
- * is too large: a call over 16, a byte over 255, a word over 65,535, a depth over TF_NO_DEPTH, a flag or kind over 1. */
+ * in tf_state's order, and what a call answers stands in state[0] behind it. Behind 19 they refuse by 2 an argument
+ * that is too large: a call over 16, a byte over 255, a word over 65,535, a depth over TF_NO_DEPTH, a flag or kind
+ * over 1. */
 tf_answer tfb_new(uint32_t depth, uint64_t *state, size_t cells, uint32_t *starts, size_t starts_length);
 tf_answer tfb_set_location(uint32_t start, uint32_t end, uint8_t has_focus, uint32_t focus_start, uint32_t focus_end,
                            uint64_t *state, size_t cells);

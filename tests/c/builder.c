@@ -468,7 +468,7 @@ static void growing(void)
         report("then it is accepted", a == 0);
     }
     report("all of it is there", b.state.code == 200 && b.state.locations == 100);
-    for (size_t i = 0; i < 100; i++) {
+    for (size_t i = 0; i < 100 && b.state.code == 200; i++) {
         report("in its order", b.code[2 * i] == TF_OP_LOAD_LOCAL && b.code[2 * i + 1] == i);
         report("with its location", b.locations[TF_LOCATION_CELLS * i] == 2 * i);
     }

@@ -52,7 +52,7 @@ static void lend(int i, size_t length)
 }
 
 /* An array longer or shorter at its end, with what it holds. */
-static void relend(int i, size_t length)
+static inline void relend(int i, size_t length)
 {
     size_t kept = lent[i].element * (length < lent[i].length ? length : lent[i].length);
     memcpy(lent[i].was, lent[i].fence - lent_bytes(i), kept);
