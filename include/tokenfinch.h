@@ -320,6 +320,7 @@ typedef struct tf_state {
 enum { TF_STATE_CELLS = 17 };
 typedef char tf_state_has_no_padding[sizeof(tf_state) == TF_STATE_CELLS * sizeof(uint64_t) ? 1 : -1];
 
+/* A builder. The functions that read a table are lent its used part: b.starts, b.state.starts * TF_START_CELLS. */
 typedef struct tf_builder {
     tf_state state;
     uint8_t *code;        size_t code_length;       /* the instructions */
@@ -385,7 +386,8 @@ enum {
  * Refuses: 19, 18. */
 tf_answer tfb_look(const uint64_t *state, size_t cells, uint64_t *out, size_t room);
 
-/* The calls of tfb_emit, and what each takes of a, b, c and the names; it doesn't look at the others. */
+/* The calls of tfb_emit, and what each takes of a, b, c and the names. It doesn't look at the others, but in live code
+ * names that are lent to a call without names are refused by 2. */
 enum {
     TF_CALL_EMIT = 0,                   /* opcode */
     TF_CALL_U8 = 1,                     /* opcode, a */
