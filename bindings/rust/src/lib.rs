@@ -8,7 +8,7 @@
 //! let mut builder = CodeBuilder::new();
 //! builder.new_code_region(0);
 //! builder.emit(Opcode::LoadNone)?;
-//! let refusal = builder.emit(Opcode::BinaryAdd).unwrap_err();
+//! let refusal = builder.emit(Opcode::StoreSubscr).unwrap_err();
 //! assert_eq!(refusal.number(), 4);
 //! assert_eq!(refusal.to_string(), "refused 4: the instruction takes more from the stack than is there");
 //! # Ok::<(), Refusal>(())
