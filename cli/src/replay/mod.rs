@@ -177,6 +177,12 @@ mod tests {
     }
 
     #[test]
+    fn the_greatest_row_is_no_dead_one() {
+        let script = b"new live 0 9 0 0 0 0 0 2\npatch_jump 18446744073709551615\npatch_jump dead\nemit_jump_to 88 18446744073709551615\nemit_jump_to 88 dead\n";
+        assert_eq!(answers(script), "ok\nrefused 13\nok\nrefused 13\nrefused 12\n");
+    }
+
+    #[test]
     fn answers_come_before_more_is_waited_for() {
         /// Hands out one line at a time, and looks whether all before it is answered.
         struct Typed<'a>(Vec<&'a [u8]>);

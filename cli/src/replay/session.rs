@@ -354,9 +354,11 @@ pub fn row_values(row: Row) -> impl Iterator<Item = u64> {
     [row.number as u64].into_iter().chain(row.cells.map(u64::from))
 }
 
-/// `dead`, or a row.
+/// `dead`, or a row. The greatest number says dead to the library, so as a row it is given as the one before it: no table has
+/// room for either, and the answer to both is the same.
 fn row(words: &mut Words<'_>) -> Option<u64> {
-    Some(words.or_word(b"dead", u64::MAX)?.unwrap_or(DEAD_ROW))
+    let given = words.or_word(b"dead", u64::MAX)?;
+    Some(given.map_or(DEAD_ROW, |row| row.min(DEAD_ROW - 1)))
 }
 
 /// A label or target that a call answers.

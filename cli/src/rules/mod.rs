@@ -15,22 +15,8 @@ use std::{
 
 use crate::replay;
 
-const HELP: &str = "\
-usage: ./rules COMMAND
-
-  listing FILE    print a rule's bytes as a listing; `-` reads standard input.
-                  Exit status 1 where the listing ends in a fault line (`!`, offset, refusal number)
-  check FILE [OFFSET:DEPTH ..]
-                  print the listing with the stack's depth in front of each line, from these starts (0:0
-                  without them); `-` reads standard input. Exit status 1 where no depths can be given: it then
-                  says why, with the refusal's number, and where two paths meet with different depths
-  opcodes         print the opcode table: number, name, shape, size, effects
-  replay          answer a script of calls on standard input, a line each (docs/REPLAY.md)
-  help            print this
-
-For instance: ./rules listing examples/brake.rule
-The first use proves and builds what is needed (some minutes), later ones start at once.
-";
+/// A file of its own, which `./rules help` shows where nothing is built yet.
+const HELP: &str = include_str!("help.txt");
 
 /// Why a command did not do what it was asked for.
 enum Trouble {
@@ -38,6 +24,8 @@ enum Trouble {
     Said(String),
     /// Writing failed.
     Output(io::Error),
+    /// Nothing is to be said: the status tells.
+    Unsaid,
 }
 
 impl From<io::Error> for Trouble {
@@ -64,6 +52,7 @@ pub fn run(words: Vec<OsString>) -> ExitCode {
                 Trouble::Said(why) => eprintln!("rules: {why}"),
                 // Who reads no further needs no message.
                 Trouble::Output(error) if error.kind() == ErrorKind::BrokenPipe => {}
+                Trouble::Unsaid => {}
                 Trouble::Output(error) => eprintln!("rules: can't write: {error}"),
             }
             ExitCode::from(2)
@@ -84,10 +73,10 @@ fn command(words: &[OsString]) -> Outcome {
             "check takes a file, or - for standard input, and starts OFFSET:DEPTH",
         )),
         ("opcodes", []) => opcodes::run(&mut io::stdout().lock()),
-        ("replay", []) => {
-            replay::run(io::stdin().lock(), io::stdout().lock())?;
-            Ok(true)
-        }
+        ("replay", []) => match replay::run(io::stdin().lock(), io::stdout().lock()) {
+            Ok(()) => Ok(true),
+            Err(_) => Err(Trouble::Unsaid),
+        },
         ("opcodes" | "replay", _) => Err(said(format!("{name} takes no argument"))),
         ("help" | "-h" | "--help", _) => {
             io::Write::write_all(&mut io::stdout(), HELP.as_bytes())?;
