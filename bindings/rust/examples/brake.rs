@@ -1,5 +1,6 @@
-//! Compiles the brake rule, which takes the limit for a wet or for a dry road and compares the measured stopping distance
-//! with it; then the rule with the fault that printed wrong reports, which is refused where its two branches meet.
+//! Compiles the brake rule, which takes the limit for a wet or for a dry road and compares the measured stopping
+//! distance with it; then the rule with the fault that printed wrong reports, which is refused where its two branches
+//! meet.
 //!
 //! The bytes of both are examples/brake.rule and examples/brake-broken.rule of the repository.
 

@@ -8,14 +8,14 @@ use crate::{
 
 /// Builds code by the calls of monty's `CodeBuilder`, under the same names and with the arguments in the same order.
 ///
-/// Where the original panics or goes wrong, a call that answers a `Result` answers a [`Refusal`] here. The three calls whose
-/// types have no room for one panic, and have a twin that answers it: [`new_code_region`](Self::new_code_region),
-/// [`register_local_names`](Self::register_local_names) and [`build`](Self::build). A refused call has changed nothing, so
-/// that a compiler can go on or report where it stands.
+/// Where the original panics or goes wrong, a call that answers a `Result` answers a [`Refusal`] here. The three calls
+/// whose types have no room for one panic, and have a twin that answers it: [`new_code_region`](Self::new_code_region),
+/// [`register_local_names`](Self::register_local_names) and [`build`](Self::build). A refused call has changed nothing,
+/// so that a compiler can go on or report where it stands.
 ///
-/// Other than in the original a constant is a number of 64 bits that is carried and not read (a compiler keeps its values
-/// by such numbers), a name is a [`StringId`] of its own, and a label or target holds the number of a mark: one of another
-/// builder is some other mark here, or none.
+/// Other than in the original a constant is a number of 64 bits that is carried and not read (a compiler keeps its
+/// values by such numbers), a name is a [`StringId`] of its own, and a label or target holds the number of a mark: one
+/// of another builder is some other mark here, or none.
 ///
 /// ```
 /// use tokenfinch::{CodeBuilder, Opcode, Refusal};
@@ -83,9 +83,9 @@ impl CodeBuilder {
         Self { held }
     }
 
-    /// Makes a call, and makes it again with a larger table where one is full. That is safe because a refused call leaves no
-    /// trace: the library is proved to leave the state and every cell of every table as they were, so the second call
-    /// starts from where the first did. It comes to an end, as a table grows at each turn.
+    /// Makes a call, and makes it again with a larger table where one is full. That is safe because a refused call
+    /// leaves no trace: the library is proved to leave the state and every cell of every table as they were, so the
+    /// second call starts from where the first did. It comes to an end, as a table grows at each turn.
     fn grown<T>(&mut self, call: impl Fn(&mut Lent) -> Result<T, Refusal>) -> Result<T, Refusal> {
         loop {
             match call(&mut self.held) {
@@ -387,8 +387,8 @@ impl CodeBuilder {
     /// Finishes the body. A slot without a name gets the default one.
     ///
     /// # Panics
-    /// Where a label was not patched; [`try_build`](Self::try_build) refuses by 17 instead. (The original builds code with
-    /// a jump that leads to behind itself.)
+    /// Where a label was not patched; [`try_build`](Self::try_build) refuses by 17 instead. (The original builds code
+    /// whose jump leads to right behind itself.)
     #[must_use]
     pub fn build(self) -> Code {
         match self.try_build(StringId::default()) {
@@ -470,8 +470,8 @@ impl JumpTarget {
     }
 }
 
-/// Twice the cells of a table, or some where it has none; false where it can't grow. New cells are 0, and are not read before
-/// a call has written them.
+/// Twice the cells of a table, or some where it has none; false where it can't grow. New cells are 0, and are not read
+/// before a call has written them.
 fn grow(held: &mut Lent, table: Table) -> bool {
     /// The most bytes of code that are ever used.
     const CODE_MOST: usize = 1_048_576;

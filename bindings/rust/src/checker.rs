@@ -31,8 +31,8 @@ impl Checked {
 /// Checks code from its starts: an offset, its depth, the next offset, and so on.
 ///
 /// # Errors
-/// In this order: 10 for code over 1,048,576 bytes; 1 or 22, which name the lowest faulty offset; 20 for starts that are
-/// none; 23 where no depths can be given.
+/// In this order: 10 for code over 1,048,576 bytes; 1 or 22, which name the lowest faulty offset; 20 for starts that
+/// are none; 23 where no depths can be given.
 ///
 /// ```
 /// use tokenfinch::{Refusal, check};
@@ -53,8 +53,9 @@ pub fn check(code: &[u8], starts: &[u32]) -> Result<Checked, Refusal> {
     Ok(Checked { count, depths })
 }
 
-/// The same into a lent slice: its first cells, one more than the code has bytes, hold the depths and [`NO_DEPTH`] elsewhere;
-/// on 23 they all hold that. Any other refusal writes nothing, and no later cell is ever written. Answers the count.
+/// The same into a lent slice: its first cells, one more than the code has bytes, hold the depths and [`NO_DEPTH`]
+/// elsewhere; on 23 they all hold that. Any other refusal writes nothing, and no later cell is ever written. Answers
+/// the count.
 ///
 /// # Errors
 /// As [`check`], with 21 behind 10 for a slice that is too short.

@@ -1,6 +1,6 @@
-//! A builder over tables of exactly the lengths that they were given, with its state open to anyone: what crosses to the
-//! proved library at each call, and nothing more. [`CodeBuilder`](crate::CodeBuilder) is for compilers; this is for those who
-//! lend their own tables, and for tests that change them from outside, as no call trusts what it is lent.
+//! A builder over tables of exactly the lengths that they were given, with its state open to anyone: what crosses to
+//! the proved library at each call, and nothing more. [`CodeBuilder`](crate::CodeBuilder) is for compilers; this is for
+//! those who lend their own tables, and for tests that change them from outside, as no call trusts what it is lent.
 
 use crate::{
     Refusal, Table,
@@ -16,8 +16,8 @@ pub const DEAD: u32 = 65_536;
 /// A label or a target that says dead.
 pub const DEAD_ROW: u64 = u64::MAX;
 
-/// The emitting calls but the jumps, by the numbers that the library has for them. Behind each: what `a`, `b` and `c` of
-/// [`Lent::emit`] are.
+/// The emitting calls but the jumps, by the numbers that the library has for them. Behind each: what `a`, `b` and `c`
+/// of [`Lent::emit`] are.
 #[repr(u8)]
 #[derive(Debug, Clone, Copy, PartialEq, Eq, Hash)]
 pub enum Call {
@@ -87,7 +87,8 @@ pub struct Look {
     pub current_position: [u32; 2],
 }
 
-/// A state and its tables. A count of the state is in rows, a table in cells; the library's header has the order of both.
+/// A state and its tables. A count of the state is in rows, a table in cells; the library's header has the order of
+/// both.
 #[derive(Debug, Clone, Default, PartialEq, Eq)]
 pub struct Lent {
     /// The state's cells.

@@ -1,6 +1,6 @@
-//! Tokenfinch for Rust: the builder, the decoder, the depth checker and the lookups of monty's bytecode, proved in Rattle and
-//! linked as a static library. [`CodeBuilder`] has the calls of monty's builder, so that a compiler written against that
-//! one moves by changing a `use`.
+//! Tokenfinch for Rust: the builder, the decoder, the depth checker and the lookups of monty's bytecode, proved in
+//! Rattle and linked as a static library. [`CodeBuilder`] has the calls of monty's builder, so that a compiler written
+//! against that one moves by changing a `use`.
 //!
 //! ```
 //! use tokenfinch::{CodeBuilder, Opcode, Refusal};
@@ -14,9 +14,9 @@
 //! # Ok::<(), Refusal>(())
 //! ```
 //!
-//! The library keeps nothing between calls and trusts nothing that it is lent: [`lent`] has it bare, and every answer for every
-//! state, table and argument is fixed by a promise that is proved. What is not proved is this crate, which hands slices over,
-//! enlarges tables and puts names to numbers.
+//! The library keeps nothing between calls and trusts nothing that it is lent: [`lent`] has it bare, and every answer
+//! for every state, table and argument is fixed by a promise that is proved. What is not proved is this crate, which
+//! hands slices over, enlarges tables and puts names to numbers.
 #![deny(missing_docs)]
 #![deny(unsafe_code)]
 

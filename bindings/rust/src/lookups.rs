@@ -24,8 +24,8 @@ fn row(answer: sys::Answer, cells: [u64; 7]) -> Option<Row> {
     })
 }
 
-/// The row of a location table that holds for an offset: the one before the first row whose offset is greater, or the last
-/// row where none is. A part of a row at the end is not looked at.
+/// The row of a location table that holds for an offset: the one before the first row whose offset is greater, or the
+/// last row where none is. A part of a row at the end is not looked at.
 #[must_use]
 pub fn location_for_offset(rows: &[u32], offset: usize) -> Option<Row> {
     let mut cells = [0; 7];

@@ -469,7 +469,8 @@ impl Opcode {
         rules::jump_taken_stack_effect(self as u8)
     }
 
-    /// Whether nothing runs on behind it: `ReturnValue`, `Raise`, `Reraise`, `RaiseUnboundLocal`, `AssertFailed`, `Jump`.
+    /// Whether nothing runs on behind it: `ReturnValue`, `Raise`, `Reraise`, `RaiseUnboundLocal`, `AssertFailed`,
+    /// `Jump`.
     #[must_use]
     pub fn makes_dead(self) -> bool {
         rules::makes_dead(self as u8) == Ok(true)

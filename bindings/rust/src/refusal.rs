@@ -114,7 +114,8 @@ impl fmt::Display for Table {
 }
 
 impl Refusal {
-    /// The refusal of a number, with what the answer's lower half names: a table for 18. An offset is told by `read_at`.
+    /// The refusal of a number, with what the answer's lower half names: a table for 18. An offset is told by
+    /// `read_at`.
     pub(crate) fn of(number: u32, named: u32) -> Self {
         match number {
             1 => Self::UnknownOpcode,

@@ -1,5 +1,5 @@
-//! The opcode rules on plain numbers, as C has them: for opcodes that may be none and operands that may not fit. Code that
-//! knows what it holds uses [`Opcode`](crate::Opcode) and [`Operand`](crate::Operand).
+//! The opcode rules on plain numbers, as C has them: for opcodes that may be none and operands that may not fit. Code
+//! that knows what it holds uses [`Opcode`](crate::Opcode) and [`Operand`](crate::Operand).
 
 use crate::{Refusal, sys};
 
@@ -11,8 +11,8 @@ pub fn operand_shape(opcode: u8) -> Result<u8, Refusal> {
     sys::operand_shape(opcode).value().map(|shape| shape as u8)
 }
 
-/// What the instruction does to the depth where it falls through. A signed number is given by its bits, and what the shape
-/// does not use is not looked at.
+/// What the instruction does to the depth where it falls through. A signed number is given by its bits, and what the
+/// shape does not use is not looked at.
 ///
 /// # Errors
 /// 1; 2 where the shape is not the opcode's, is none, or a number is too large for its field.

@@ -1,5 +1,6 @@
-//! The library's exports as include/tokenfinch.h declares them, each behind a function that takes slices. Only this file
-//! has unsafe code: it says to the library how long each slice is, and that is all the library has to be told truly.
+//! The library's exports as include/tokenfinch.h declares them, each behind a function that takes slices. Only this
+//! file has unsafe code: it says to the library how long each slice is, and that is all the library has to be told
+//! truly.
 
 use crate::Refusal;
 
@@ -157,8 +158,8 @@ mod c {
 
 pub use c::{tf_assert_flags, tf_decode_assert_flags};
 
-/// An answer as it crosses: the refusal's number in the upper half, 0 where the call was accepted; in the lower half the
-/// value, or what the refusal names.
+/// An answer as it crosses: the refusal's number in the upper half, 0 where the call was accepted; in the lower half
+/// the value, or what the refusal names.
 #[derive(Clone, Copy)]
 pub struct Answer(u64);
 

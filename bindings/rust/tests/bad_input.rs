@@ -1,5 +1,6 @@
-//! No call trusts what it is lent: states and tables of any cells and lengths, null, arguments that a call does not have. Each
-//! call has to answer, a refused one has to leave every cell as it was, and what is no state has to be refused as such.
+//! No call trusts what it is lent: states and tables of any cells and lengths, null, arguments that a call does not
+//! have. Each call has to answer, a refused one has to leave every cell as it was, and what is no state has to be
+//! refused as such.
 
 mod common;
 
@@ -7,7 +8,7 @@ use std::ptr::{null, null_mut};
 
 use common::Random;
 use tokenfinch::{
-    Refusal, Table, check_into, instructions,
+    NO_DEPTH, Refusal, Table, check_into, instructions,
     lent::{Emission, Lent, STATE_CELLS},
     lookups, step,
 };
@@ -84,30 +85,16 @@ fn is_state(cells: &[u64]) -> bool {
         && (cells[9] == 0 || cells[12] == 0 || (narrow(13) && narrow(14)))
 }
 
-/// One call with any arguments; whether they are the call's own kind, and its answer.
+/// One call with any arguments; whether they are of the call's own kind, and its answer.
 fn any_call(random: &mut Random, lent: &mut Lent) -> (bool, Result<(), Refusal>) {
     let opcode = random.below(135) as u8;
     let row = random.number(64);
-    let done = |answer: Result<u64, Refusal>| (true, answer.map(|_| ()));
     match random.below(16) {
-        0..=2 => {
-            let names: Vec<u16> = (0..random.below(4)).map(|_| random.number(16) as u16).collect();
-            let call = random.below(18) as u8;
-            // Any 17 are calls; whether the numbers fit goes by the call.
-            let answer = lent.emit(Emission {
-                call,
-                opcode,
-                a: random.below(4) as u16,
-                b: random.below(4) as u32,
-                c: random.number(8) as u8,
-                names: if call == 10 || call == 11 { &names } else { &[] },
-            });
-            (call <= 16, answer)
-        }
-        3 | 4 => done(lent.emit_jump(opcode)),
+        0..=2 => any_emission(random, opcode, lent),
+        3 | 4 => (true, lent.emit_jump(opcode).map(|_| ())),
         5 | 6 => (true, lent.patch_jump(row)),
         7 | 8 => (true, lent.emit_jump_to(opcode, row)),
-        9 => done(lent.current_jump_target()),
+        9 => (true, lent.current_jump_target().map(|_| ())),
         10 => {
             let names: Vec<u32> = (0..random.below(5)).map(|_| random.number(32) as u32).collect();
             (true, lent.register_local_names(&names))
@@ -116,7 +103,7 @@ fn any_call(random: &mut Random, lent: &mut Lent) -> (bool, Result<(), Refusal>)
             true,
             lent.register_local_name(random.below(9) as u16, random.number(32) as u32),
         ),
-        12 => done(lent.add_const(row)),
+        12 => (true, lent.add_const(row).map(|_| ())),
         13 => {
             let kind = random.below(4) as u8;
             let bounds = [0, 1, 2].map(|_| random.number(64) as usize);
@@ -129,6 +116,37 @@ fn any_call(random: &mut Random, lent: &mut Lent) -> (bool, Result<(), Refusal>)
         _ if random.chance(2) => (true, lent.new_code_region(random.number(16) as u16)),
         _ => (true, lent.build(random.number(32) as u32)),
     }
+}
+
+/// An emitting call, now and then with numbers that it does not have, or with names where it takes none.
+fn any_emission(random: &mut Random, opcode: u8, lent: &mut Lent) -> (bool, Result<(), Refusal>) {
+    let names: Vec<u16> = (0..random.below(4)).map(|_| random.number(16) as u16).collect();
+    let (call, wide) = (random.below(18) as u8, random.chance(4));
+    let emission = Emission {
+        call,
+        opcode,
+        a: if wide {
+            random.number(16) as u16
+        } else {
+            random.below(4) as u16
+        },
+        b: if wide {
+            random.number(32) as u32
+        } else {
+            random.below(4) as u32
+        },
+        c: random.number(8) as u8,
+        names: if call == 10 || call == 11 || wide { &names } else { &[] },
+    };
+    (fits(&emission), lent.emit(emission))
+}
+
+/// Whether there is such a call, and its numbers are of the widths that it has for them.
+fn fits(emission: &Emission<'_>) -> bool {
+    let Emission { call, a, b, .. } = *emission;
+    let byte_a = matches!(call, 1..=3 | 8..=10);
+    let byte_b = matches!(call, 3 | 6..=9 | 11);
+    call <= 16 && !(byte_a && a > 255) && !(byte_b && b > 255) && !(call == 5 && b > 65_535)
 }
 
 #[test]
@@ -190,8 +208,8 @@ fn a_new_builder_of_any_cells() {
 }
 
 #[test]
-fn any_bytes_rows_and_slices() {
-    let mut random = Random::seeded("bytes, rows and slices", SEED ^ 2);
+fn any_bytes_and_slices() {
+    let mut random = Random::seeded("bytes and slices", SEED ^ 2);
     for _ in 0..ROUNDS {
         let code: Vec<u8> = (0..random.below(40)).map(|_| random.below(140) as u8).collect();
         let read: usize = instructions(&code)
@@ -203,40 +221,47 @@ fn any_bytes_rows_and_slices() {
         assert_eq!(fault.and_then(Refusal::offset), fault.is_some().then_some(read));
         let at = random.number(64) as usize;
         assert!(at < code.len() || step(&code, at) == Ok(None));
-
         let starts: Vec<u32> = (0..random.below(5)).map(|_| random.number(32) as u32).collect();
-        let mut depths: Vec<u32> = (0..random.below(50) as u32).collect();
-        let before = depths.clone();
-        let answer = check_into(&code, &starts, &mut depths);
-        let used = code.len() + 1;
-        match answer {
-            Ok(_) => assert_eq!(depths[used..], before[used..]),
-            Err(Refusal::NoDepths) => {
-                assert!(depths[..used].iter().all(|&depth| depth == 65_536));
-                assert_eq!(depths[used..], before[used..]);
-            }
-            Err(_) => assert_eq!(depths, before),
-        }
-        if before.len() < used {
-            assert_eq!(answer, Err(Refusal::ShortDepths));
-        }
+        check_any(&code, &starts, random.below(50) as u32);
+    }
+}
 
+/// The checker with a slice of so many cells: what it may write, and what it may not.
+fn check_any(code: &[u8], starts: &[u32], cells: u32) {
+    let mut depths: Vec<u32> = (0..cells).collect();
+    let before = depths.clone();
+    let answer = check_into(code, starts, &mut depths);
+    let used = code.len() + 1;
+    match answer {
+        Ok(_) => assert_eq!(depths[used..], before[used..]),
+        Err(Refusal::NoDepths) => {
+            assert!(depths[..used].iter().all(|&depth| depth == NO_DEPTH));
+            assert_eq!(depths[used..], before[used..]);
+        }
+        Err(_) => assert_eq!(depths, before),
+    }
+    if before.len() < used {
+        assert_eq!(answer, Err(Refusal::ShortDepths));
+    }
+}
+
+#[test]
+fn any_rows() {
+    let mut random = Random::seeded("rows", SEED ^ 3);
+    for _ in 0..ROUNDS {
         let rows: Vec<u32> = (0..random.below(30)).map(|_| random.number(32) as u32).collect();
-        let whole = rows.len() / 6;
         let found = lookups::find_exception_handler(&rows, random.number(32) as u32);
         let placed = lookups::location_for_offset(&rows, random.number(64) as usize);
         for row in [found, placed].into_iter().flatten() {
-            assert!(row.number < whole);
+            assert!(row.number < rows.len() / 6);
             assert_eq!(row.cells, rows[6 * row.number..][..6]);
         }
-        let names: Vec<u64> = rows.iter().map(|&cell| cell.into()).collect();
-        let slot = random.number(64) as usize;
-        let cell = names.get(slot).copied();
-        assert_eq!(lookups::constant(&names, slot), cell);
-        assert_eq!(
-            lookups::local_name(&names, slot).map(u64::from),
-            cell.filter(|&cell| cell > 0).map(|cell| cell - 1)
-        );
+        let cells: Vec<u64> = rows.iter().map(|&cell| cell.into()).collect();
+        let place = random.number(64) as usize;
+        let cell = cells.get(place).copied();
+        assert_eq!(lookups::constant(&cells, place), cell);
+        let named = cell.filter(|&cell| cell > 0).map(|cell| cell - 1);
+        assert_eq!(lookups::local_name(&cells, place).map(u64::from), named);
     }
 }
 
@@ -281,14 +306,13 @@ fn null_and_no_cells() {
     let mut state = [0; STATE_CELLS];
     let cells = state.as_mut_ptr();
     // SAFETY: each pointer is null beside a length of 0, or has as many cells behind it as is said.
-    unsafe {
-        assert_eq!(halves(tfb_new(0, null_mut(), 0, null_mut(), 0)), [19, 0]);
-        assert_eq!(halves(tfb_new(0, cells, STATE_CELLS - 1, null_mut(), 0)), [19, 0]);
-        assert_eq!(
-            halves(tfb_new(0, cells, STATE_CELLS, null_mut(), 0)),
-            [18, Table::Starts as u64]
-        );
-        assert_eq!(tfb_new(65_536, cells, STATE_CELLS, null_mut(), 0), 0);
+    let [new, emit, look, read] = unsafe {
+        let new = [
+            tfb_new(0, null_mut(), 0, null_mut(), 0),
+            tfb_new(0, cells, STATE_CELLS - 1, null_mut(), 0),
+            tfb_new(0, cells, STATE_CELLS, null_mut(), 0),
+            tfb_new(65_536, cells, STATE_CELLS, null_mut(), 0),
+        ];
         let emit = |cells, count, opcode| {
             tfb_emit(
                 0,
@@ -306,23 +330,29 @@ fn null_and_no_cells() {
                 0,
             )
         };
-        assert_eq!(halves(emit(null_mut(), 0, 5)), [19, 0]);
-        assert_eq!(emit(cells, STATE_CELLS, 5), 0); // dead
-        *cells.add(4) = 0;
-        assert_eq!(halves(emit(cells, STATE_CELLS, 5)), [18, Table::Code as u64]);
-        assert_eq!(halves(emit(cells, STATE_CELLS, 131)), [1, 0]);
-        assert_eq!(
-            halves(tfb_add_const(1, cells, STATE_CELLS, null_mut(), 0)),
-            [18, Table::Constants as u64]
-        );
-        assert_eq!(
-            halves(tfb_look(cells, STATE_CELLS, null_mut(), 0)),
-            [18, Table::Text as u64]
-        );
-        assert_eq!(halves(tfb_look(null(), 0, null_mut(), 0)), [19, 0]);
-        assert_eq!(tf_step(null(), 0, 0, null_mut(), 0), 0);
-        assert_eq!(halves(tf_step([5].as_ptr(), 1, 0, null_mut(), 0))[0], 18);
-        assert_eq!(halves(tf_check(null(), 0, null(), 0, null_mut(), 0))[0], 21);
-    }
-    assert_eq!(state[4], 0);
+        let dead = [emit(null_mut(), 0, 5), emit(cells, STATE_CELLS, 5)];
+        *cells.add(4) = 0; // live from here on
+        let live = [emit(cells, STATE_CELLS, 5), emit(cells, STATE_CELLS, 131)];
+        let look = [
+            tfb_look(cells, STATE_CELLS, null_mut(), 0),
+            tfb_look(null(), 0, null_mut(), 0),
+            tfb_add_const(1, cells, STATE_CELLS, null_mut(), 0),
+            tfb_add_const(1, null_mut(), 0, null_mut(), 0),
+        ];
+        let read = [
+            tf_step(null(), 0, 0, null_mut(), 0),
+            tf_step([5].as_ptr(), 1, 0, null_mut(), 0),
+            tf_check(null(), 0, null(), 0, null_mut(), 0),
+            tf_check(null(), 0, null(), 0, [0].as_mut_ptr(), 1),
+        ];
+        [new, [dead[0], dead[1], live[0], live[1]], look, read]
+    };
+    let full = |table: Table| [18, table as u64];
+    assert_eq!(new.map(halves), [[19, 0], [19, 0], full(Table::Starts), [0, 0]]);
+    assert_eq!(emit.map(halves), [[19, 0], [0, 0], full(Table::Code), [1, 0]]);
+    assert_eq!(
+        look.map(halves),
+        [full(Table::Text), [19, 0], full(Table::Constants), [19, 0]]
+    );
+    assert_eq!(read.map(|answer| halves(answer)[0]), [0, 18, 21, 0]);
 }

@@ -1,126 +1,178 @@
-//! A builder whose tables grow answers every call as one whose tables were large from the start, and ends with the same code.
+//! A builder whose tables grow answers every call as one whose tables were large from the start, and ends with the same
+//! code.
 
 mod common;
 
 use common::Random;
 use tokenfinch::{
-    CodeBuilder, CodeRange, HandlerKind, Opcode, Refusal, StringId,
-    lent::{Call, Emission, Lent, STATE_CELLS},
+    CodeBuilder, CodeRange, HandlerKind, JumpLabel, JumpTarget, Opcode, Refusal, StringId,
+    lent::{Call, DEAD, Emission, Lent, STATE_CELLS},
 };
 
 const SEED: u64 = 0x6772_6f77_7468_0001;
 
-/// A builder that never has to grow.
-fn large() -> Lent {
-    let mut lent = Lent {
-        state: vec![0; STATE_CELLS],
-        code: vec![0; 200_000],
-        locations: vec![0; 400_000],
-        exceptions: vec![0; 60_000],
-        constants: vec![0; 70_000],
-        names: vec![0; 70_000],
-        marks: vec![0; 400_000],
-        starts: vec![0; 40_000],
-    };
-    lent.begin(65_536).expect("there is room");
-    lent
+/// Whether both accepted a call, or how they refused it.
+type Answers = [Result<(), Refusal>; 2];
+
+/// The two builders, with the labels and targets that both gave.
+struct Both {
+    builder: CodeBuilder,
+    lent: Lent,
+    labels: Vec<(JumpLabel, u64)>,
+    targets: Vec<(JumpTarget, u64)>,
 }
 
-/// The answers of both to one call. Labels and targets are kept by both.
-fn both(
-    random: &mut Random,
-    builder: &mut CodeBuilder,
-    lent: &mut Lent,
-    labels: &mut Vec<(tokenfinch::JumpLabel, u64)>,
-    targets: &mut Vec<(tokenfinch::JumpTarget, u64)>,
-) -> [Result<(), Refusal>; 2] {
-    let op = Opcode::ALL[random.below(131) as usize];
-    let (a, b) = (random.number(16) as u16, random.number(8) as u8);
-    let name = random.number(32) as u32;
-    let plain = |call: Call, opcode, a, b, c| Emission {
+fn any<T: Copy>(random: &mut Random, list: &[T]) -> T {
+    list[random.below(list.len() as u64) as usize]
+}
+
+fn plain(call: Call, opcode: u8, a: u16, b: u32, c: u8) -> Emission<'static> {
+    Emission {
         call: call as u8,
         opcode,
         a,
         b,
         c,
         names: &[],
-    };
-    match random.below(17) {
-        0..=2 => {
-            let op = [Opcode::LoadNone, Opcode::Nop, Opcode::Pop, op][random.below(4) as usize];
-            [builder.emit(op), lent.emit(plain(Call::Emit, op as u8, 0, 0, 0))]
+    }
+}
+
+impl Both {
+    fn new() -> Self {
+        let mut lent = Lent {
+            state: vec![0; STATE_CELLS],
+            code: vec![0; 200_000],
+            locations: vec![0; 400_000],
+            exceptions: vec![0; 60_000],
+            constants: vec![0; 70_000],
+            names: vec![0; 70_000],
+            marks: vec![0; 400_000],
+            starts: vec![0; 40_000],
+        };
+        lent.begin(DEAD).expect("there is room");
+        Self {
+            builder: CodeBuilder::new(),
+            lent,
+            labels: Vec::new(),
+            targets: Vec::new(),
         }
-        3 => [
-            builder.emit_u16(op, a),
-            lent.emit(plain(Call::EmitU16, op as u8, a, 0, 0)),
-        ],
-        4 => [
-            builder.emit_u8(op, b),
-            lent.emit(plain(Call::EmitU8, op as u8, b.into(), 0, 0)),
-        ],
-        5 => [
-            builder.emit_load_local(a),
-            lent.emit(plain(Call::EmitLoadLocal, 0, a, 0, 0)),
-        ],
-        6 => [
-            builder.emit_name_op(op, a, StringId(name), b),
-            lent.emit(plain(Call::EmitNameOp, op as u8, a, name, b)),
-        ],
-        7 => {
-            let names = vec![7; random.below(300) as usize];
-            let emission = Emission {
-                names: &names,
-                ..plain(Call::EmitCallFunctionKw, 0, 0, 0, 0)
-            };
-            [builder.emit_call_function_kw(0, &names), lent.emit(emission)]
+    }
+
+    fn call(&mut self, random: &mut Random) -> Answers {
+        match random.below(17) {
+            0..=7 => self.emission(random),
+            8..=12 => self.flow(random),
+            _ => self.holding(random),
         }
-        8 | 9 => {
-            let op = [Opcode::Jump, Opcode::JumpIfTrue, Opcode::ForIter, op][random.below(4) as usize];
-            let answers = (builder.emit_jump(op), lent.emit_jump(op as u8));
-            if let (Ok(label), Ok(row)) = answers {
-                labels.push((label, row));
+    }
+
+    fn emission(&mut self, random: &mut Random) -> Answers {
+        let Self { builder, lent, .. } = self;
+        let op = any(random, &Opcode::ALL);
+        let (a, b) = (random.number(16) as u16, random.number(8) as u8);
+        let name = random.number(32) as u32;
+        let number = op as u8;
+        match random.below(8) {
+            0 => [
+                builder.emit_u16(op, a),
+                lent.emit(plain(Call::EmitU16, number, a, 0, 0)),
+            ],
+            1 => [
+                builder.emit_u8(op, b),
+                lent.emit(plain(Call::EmitU8, number, b.into(), 0, 0)),
+            ],
+            2 => [
+                builder.emit_load_local(a),
+                lent.emit(plain(Call::EmitLoadLocal, 0, a, 0, 0)),
+            ],
+            3 => [
+                builder.emit_name_op(op, a, StringId(name), b),
+                lent.emit(plain(Call::EmitNameOp, number, a, name, b)),
+            ],
+            4 => {
+                let names = vec![7; random.below(300) as usize];
+                let emission = plain(Call::EmitCallFunctionKw, 0, 0, 0, 0);
+                let emission = Emission {
+                    names: &names,
+                    ..emission
+                };
+                [builder.emit_call_function_kw(0, &names), lent.emit(emission)]
             }
-            [answers.0.map(|_| ()), answers.1.map(|_| ())]
-        }
-        10 if !labels.is_empty() => {
-            let (label, row) = labels[random.below(labels.len() as u64) as usize];
-            [builder.patch_jump(label), lent.patch_jump(row)]
-        }
-        11 => {
-            let row = lent.current_jump_target();
-            if let Ok(row) = row {
-                targets.push((builder.current_jump_target(), row));
+            _ => {
+                let op = any(random, &[Opcode::LoadNone, Opcode::Nop, Opcode::Pop, op]);
+                [builder.emit(op), lent.emit(plain(Call::Emit, op as u8, 0, 0, 0))]
             }
-            [Ok(()), row.map(|_| ())]
         }
-        12 if !targets.is_empty() => {
-            let (target, row) = targets[random.below(targets.len() as u64) as usize];
-            [builder.emit_jump_to(op, target), lent.emit_jump_to(op as u8, row)]
+    }
+
+    fn flow(&mut self, random: &mut Random) -> Answers {
+        let Self { builder, lent, .. } = self;
+        let op = any(random, &Opcode::ALL);
+        match random.below(4) {
+            0 if !self.labels.is_empty() => {
+                let (label, row) = any(random, &self.labels);
+                [builder.patch_jump(label), lent.patch_jump(row)]
+            }
+            1 if !self.targets.is_empty() => {
+                let (target, row) = any(random, &self.targets);
+                [builder.emit_jump_to(op, target), lent.emit_jump_to(op as u8, row)]
+            }
+            2 => {
+                let row = lent.current_jump_target().expect("there is room");
+                self.targets.push((builder.current_jump_target(), row));
+                [Ok(()); 2]
+            }
+            _ => {
+                let op = any(random, &[Opcode::Jump, Opcode::JumpIfTrue, Opcode::ForIter, op]);
+                let answers = (builder.emit_jump(op), lent.emit_jump(op as u8));
+                if let (Ok(label), Ok(row)) = answers {
+                    self.labels.push((label, row));
+                }
+                [answers.0.map(|_| ()), answers.1.map(|_| ())]
+            }
         }
-        13 => {
-            let depth = random.below(9) as u16;
-            [builder.try_new_code_region(depth), lent.new_code_region(depth)]
+    }
+
+    /// Names, constants, regions, locations and exceptions.
+    fn holding(&mut self, random: &mut Random) -> Answers {
+        let Self { builder, lent, .. } = self;
+        let (name, depth) = (random.number(32) as u32, random.below(9) as u16);
+        match random.below(4) {
+            0 => [builder.try_new_code_region(depth), lent.new_code_region(depth)],
+            1 => {
+                let slot = random.below(700) as u16;
+                builder.register_local_name(slot, StringId(name));
+                [Ok(()), lent.register_local_name(slot, name)]
+            }
+            2 => {
+                let value = random.next();
+                let indices = (builder.add_const(value).map(u64::from), lent.add_const(value));
+                assert_eq!(indices.0, indices.1);
+                [Ok(()); 2]
+            }
+            _ => {
+                builder.set_location(CodeRange { start: name, end: 9 }, None);
+                let located = lent.set_location([name, 9], 0, [0, 0]);
+                let here = builder.current_offset();
+                let at = here.as_u32().expect("the code is short") as usize;
+                let entered = builder.add_exception_entry(here, here, here, depth, 1, HandlerKind::Cleanup);
+                [
+                    entered,
+                    located.and_then(|()| lent.add_exception_entry([at; 3], depth, 1, 1)),
+                ]
+            }
         }
-        14 => {
-            let slot = random.below(700) as u16;
-            builder.register_local_name(slot, StringId(name));
-            [Ok(()), lent.register_local_name(slot, name)]
-        }
-        15 => {
-            let value = random.next();
-            [builder.add_const(value).map(|_| ()), lent.add_const(value).map(|_| ())]
-        }
-        _ => {
-            let range = CodeRange { start: name, end: 9 };
-            builder.set_location(range, None);
-            let here = builder.current_offset();
-            let at = here.as_u32().expect("code is short") as usize;
-            let located = lent.set_location([name, 9], 0, [0, 0]);
-            let entered = builder.add_exception_entry(here, here, here, a, a, HandlerKind::Cleanup);
-            [
-                entered,
-                located.and_then(|()| lent.add_exception_entry([at; 3], a, a, 1)),
-            ]
+    }
+
+    /// Both end with the same, or refuse alike.
+    fn build(mut self) {
+        let built = self.lent.build(5);
+        match self.builder.try_build(StringId(5)) {
+            Err(refusal) => assert_eq!(built, Err(refusal)),
+            Ok(code) => {
+                assert_eq!(built, Ok(()));
+                assert_eq!(code.bytecode(), &self.lent.code[..code.bytecode().len()]);
+            }
         }
     }
 }
@@ -129,21 +181,13 @@ fn both(
 fn growing_tables_answer_as_large_ones() {
     let mut random = Random::seeded("growing tables", SEED);
     for _ in 0..12 {
-        let (mut builder, mut lent) = (CodeBuilder::new(), large());
-        let (mut labels, mut targets) = (Vec::new(), Vec::new());
+        let mut both = Both::new();
         for turn in 0..2_500 {
-            let [grown, large] = both(&mut random, &mut builder, &mut lent, &mut labels, &mut targets);
+            let [grown, large] = both.call(&mut random);
             assert_eq!(grown, large, "turn {turn}");
-            let look = lent.look().expect("it is a state");
-            assert_eq!(builder.stack_depth(), look.stack_depth);
+            let look = both.lent.look().expect("it is a state");
+            assert_eq!(both.builder.stack_depth(), look.stack_depth);
         }
-        let built = lent.build(5);
-        match builder.try_build(StringId(5)) {
-            Err(refusal) => assert_eq!(built, Err(refusal)),
-            Ok(code) => {
-                assert_eq!(built, Ok(()));
-                assert_eq!(code.bytecode(), &lent.code[..code.bytecode().len()]);
-            }
-        }
+        both.build();
     }
 }

@@ -36,7 +36,8 @@ impl<R: Read> Lines<R> {
         }
     }
 
-    /// The next line, or none at the input's end. `before_waiting` is called before each reading, which may have to wait.
+    /// The next line, or none at the input's end. `before_waiting` is called before each reading, which may have to
+    /// wait.
     pub fn next(&mut self, mut before_waiting: impl FnMut() -> io::Result<()>) -> io::Result<Option<Line<'_>>> {
         self.line.clear();
         let mut length: usize = 0;

@@ -60,6 +60,14 @@ mod tests {
         String::from_utf8(out).expect("answers are ASCII")
     }
 
+    /// The answer to each of some lines.
+    fn told<const N: usize>(lines: [&str; N]) -> Vec<String> {
+        answers(lines.join("\n").as_bytes())
+            .lines()
+            .map(str::to_owned)
+            .collect()
+    }
+
     #[test]
     fn lines_are_counted_and_blanks_and_comments_are_silent() {
         assert_eq!(answers(b"shape 5\n\n# shape 5\nnone\nshape 5"), "ok 0\n? 4\nok 0\n");
@@ -146,8 +154,14 @@ mod tests {
         ] {
             assert_eq!(answers(line.as_bytes()), "? 1\n", "{line}");
         }
-        let script = "new dead 0 0 0 0 0 0 0\nset_location 1 2 clause 3\ntamper table 4\npaste 1 1 05 | | | |\ncheck_here strict\n";
-        assert_eq!(answers(script.as_bytes()), "ok\n? 2\n? 3\n? 4\n? 5\n");
+        let told = told([
+            "new dead 0 0 0 0 0 0 0",
+            "set_location 1 2 clause 3",
+            "tamper table 4",
+            "paste 1 1 05 | | | |",
+            "check_here strict",
+        ]);
+        assert_eq!(told, ["ok", "? 2", "? 3", "? 4", "? 5"]);
     }
 
     #[test]
@@ -172,14 +186,32 @@ mod tests {
 
     #[test]
     fn without_a_builder_there_is_none() {
-        assert_eq!(answers(b"emit 5\ncounts\nnew live 0 9 0 0 0 0 0 1\nemit 5\nnew live 0 9 0 0 0 0 0 2\nemit 5\nnew live\nemit 5\n"),
-            "? 1\n? 2\nrefused 18 starts\n? 4\nok\nok\n? 7\nok\n");
+        let told = told([
+            "emit 5",
+            "counts",
+            "new live 0 9 0 0 0 0 0 1",
+            "emit 5",
+            "new live 0 9 0 0 0 0 0 2",
+            "emit 5",
+            "new live",
+            "emit 5",
+        ]);
+        assert_eq!(
+            told,
+            ["? 1", "? 2", "refused 18 starts", "? 4", "ok", "ok", "? 7", "ok"]
+        );
     }
 
     #[test]
     fn the_greatest_row_is_no_dead_one() {
-        let script = b"new live 0 9 0 0 0 0 0 2\npatch_jump 18446744073709551615\npatch_jump dead\nemit_jump_to 88 18446744073709551615\nemit_jump_to 88 dead\n";
-        assert_eq!(answers(script), "ok\nrefused 13\nok\nrefused 13\nrefused 12\n");
+        let told = told([
+            "new live 0 9 0 0 0 0 0 2",
+            "patch_jump 18446744073709551615",
+            "patch_jump dead",
+            "emit_jump_to 88 18446744073709551615",
+            "emit_jump_to 88 dead",
+        ]);
+        assert_eq!(told, ["ok", "refused 13", "ok", "refused 13", "refused 12"]);
     }
 
     #[test]

@@ -139,17 +139,7 @@ impl Session {
                 words.end()?;
                 told_row(self.lent.current_jump_target(), out);
             }
-            b"set_location" => {
-                let range = [words.u32()?, words.u32()?];
-                let has_focus = !words.is_end();
-                let focus = if has_focus {
-                    [words.u32()?, words.u32()?]
-                } else {
-                    [0, 0]
-                };
-                words.end()?;
-                out.done(self.lent.set_location(range, has_focus.into(), focus));
-            }
+            b"set_location" => return self.set_location(words, out),
             b"new_code_region" => {
                 let depth = words.u16()?;
                 words.end()?;
@@ -157,6 +147,20 @@ impl Session {
             }
             _ => return None,
         }
+        Some(())
+    }
+
+    /// `set_location`, with a focus or without.
+    fn set_location(&mut self, mut words: Words<'_>, out: &mut Out) -> Option<()> {
+        let range = [words.u32()?, words.u32()?];
+        let has_focus = !words.is_end();
+        let focus = if has_focus {
+            [words.u32()?, words.u32()?]
+        } else {
+            [0, 0]
+        };
+        words.end()?;
+        out.done(self.lent.set_location(range, has_focus.into(), focus));
         Some(())
     }
 
@@ -354,8 +358,8 @@ pub fn row_values(row: Row) -> impl Iterator<Item = u64> {
     [row.number as u64].into_iter().chain(row.cells.map(u64::from))
 }
 
-/// `dead`, or a row. The greatest number says dead to the library, so as a row it is given as the one before it: no table has
-/// room for either, and the answer to both is the same.
+/// `dead`, or a row. The greatest number says dead to the library, so as a row it is given as the one before it: no
+/// table has room for either, and the answer to both is the same.
 fn row(words: &mut Words<'_>) -> Option<u64> {
     let given = words.or_word(b"dead", u64::MAX)?;
     Some(given.map_or(DEAD_ROW, |row| row.min(DEAD_ROW - 1)))

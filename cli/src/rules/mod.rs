@@ -1,5 +1,5 @@
-//! The program `rules`: its words, files and messages. Exit status 1 says that a rule was refused, 2 that the words or a file
-//! are no good, with one line on standard error.
+//! The program `rules`: its words, files and messages. Exit status 1 says that a rule was refused, 2 that the words or
+//! a file are no good, with one line on standard error.
 
 mod check;
 mod listing;

@@ -1,35 +1,40 @@
-//! The crate in bindings/rust beside the original: one text of a small compiler, compiled twice with nothing but its `use` changed,
-//! has to give the same bytes and the same lookups.
+//! The crate in bindings/rust beside the original: one text of a small compiler, compiled twice with nothing but its
+//! `use` changed, has to give the same bytes and the same lookups.
 
 use crate::{
     Plan,
     tally::{Expected, Tally},
 };
 
-/// What is found out about finished code: its bytes, and for each offset the location's range, the handler, and the name of
-/// the slot of that number.
+/// What is found out about finished code: its bytes, and for each offset the location's range, the handler, and the
+/// name of the slot of that number.
 type Seen = (Vec<u8>, Vec<([u32; 2], [u32; 3], u32)>);
 
-/// The compiler, which takes its decisions from a list of numbers.
+/// What the compiler takes its decisions from.
+type Choices<'a> = std::slice::Iter<'a, u8>;
+
+/// The compiler.
 macro_rules! compiler {
     ($name:ident: $($import:item)*) => {
         mod $name {
-            use super::Seen;
+            use super::{Choices, Seen};
             $($import)*
+
+            type Done = Result<(), CompileError>;
 
             pub fn compile(choices: &[u8]) -> Result<Seen, CompileError> {
                 let mut builder = CodeBuilder::new();
                 builder.register_local_names(&[StringId(3), StringId(4)]);
                 builder.new_code_region(0);
-                body(&mut builder, &mut choices.iter().copied(), 0)?;
+                body(&mut builder, &mut choices.iter(), 0)?;
                 builder.emit(Opcode::LoadNone)?;
                 builder.emit(Opcode::ReturnValue)?;
                 Ok(seen(&builder.build()))
             }
 
-            fn body(builder: &mut CodeBuilder, choices: &mut dyn Iterator<Item = u8>, level: u32) -> Result<(), CompileError> {
-                for _ in 0..choices.next().unwrap_or(0) % 6 {
-                    let Some(choice) = choices.next() else { break };
+            fn body(builder: &mut CodeBuilder, choices: &mut Choices, level: u32) -> Done {
+                for _ in 0..choices.next().copied().unwrap_or(0) % 6 {
+                    let Some(&choice) = choices.next() else { break };
                     let place = CodeRange { start: u32::from(choice), end: level };
                     builder.set_location(place, (choice > 99).then_some(place));
                     match choice % 12 {
@@ -43,7 +48,7 @@ macro_rules! compiler {
                 Ok(())
             }
 
-            fn statement(builder: &mut CodeBuilder, kind: u8, choice: u8) -> Result<(), CompileError> {
+            fn statement(builder: &mut CodeBuilder, kind: u8, choice: u8) -> Done {
                 let (wide, name) = (u16::from(choice) * 3, StringId(u32::from(choice) * 7));
                 match kind {
                     4 => {
@@ -69,7 +74,7 @@ macro_rules! compiler {
                 builder.emit_store_local(wide)
             }
 
-            fn branch(builder: &mut CodeBuilder, choices: &mut dyn Iterator<Item = u8>, level: u32) -> Result<(), CompileError> {
+            fn branch(builder: &mut CodeBuilder, choices: &mut Choices, level: u32) -> Done {
                 builder.emit(Opcode::LoadTrue)?;
                 let other = builder.emit_jump(Opcode::JumpIfFalse)?;
                 body(builder, choices, level + 1)?;
@@ -79,7 +84,7 @@ macro_rules! compiler {
                 builder.patch_jump(over)
             }
 
-            fn repeat(builder: &mut CodeBuilder, choices: &mut dyn Iterator<Item = u8>, level: u32) -> Result<(), CompileError> {
+            fn repeat(builder: &mut CodeBuilder, choices: &mut Choices, level: u32) -> Done {
                 let top = builder.current_jump_target();
                 builder.emit(Opcode::LoadTrue)?;
                 let out = builder.emit_jump(Opcode::JumpIfFalse)?;
@@ -88,7 +93,7 @@ macro_rules! compiler {
                 builder.patch_jump(out)
             }
 
-            fn walk(builder: &mut CodeBuilder, choices: &mut dyn Iterator<Item = u8>, level: u32) -> Result<(), CompileError> {
+            fn walk(builder: &mut CodeBuilder, choices: &mut Choices, level: u32) -> Done {
                 builder.emit(Opcode::LoadNone)?;
                 builder.emit(Opcode::GetIter)?;
                 let top = builder.current_jump_target();
@@ -99,7 +104,7 @@ macro_rules! compiler {
                 builder.patch_jump(out)
             }
 
-            fn guarded(builder: &mut CodeBuilder, choices: &mut dyn Iterator<Item = u8>, level: u32) -> Result<(), CompileError> {
+            fn guarded(builder: &mut CodeBuilder, choices: &mut Choices, level: u32) -> Done {
                 let depth = builder.stack_depth().unwrap_or(0);
                 let start = builder.current_offset();
                 body(builder, choices, level + 1)?;
@@ -117,7 +122,8 @@ macro_rules! compiler {
             fn seen(code: &Code) -> Seen {
                 let bytes = code.bytecode().to_vec();
                 let at = |offset: u32| {
-                    let place = code.location_for_offset(offset as usize).map(|entry| entry.range()).unwrap_or_default();
+                    let entry = code.location_for_offset(offset as usize);
+                    let place = entry.map(|entry| entry.range()).unwrap_or_default();
                     let handler = code.find_exception_handler(offset).map_or([9; 3], |entry| {
                         [entry.handler(), entry.stack_depth().into(), entry.pushes_exception().into()]
                     });
