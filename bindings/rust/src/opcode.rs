@@ -159,11 +159,11 @@ pub enum Opcode {
     ListAppend = 72,
     /// Add TOS to set for comprehension. Operand: u8 depth (number of iterators).
     SetAdd = 73,
-    /// Set dict[key] = value for comprehension. Operand: u8 depth (number of iterators).
+    /// Set `dict[key] = value` for comprehension. Operand: u8 depth (number of iterators).
     DictSetItem = 74,
-    /// a[b]: pop index, pop obj, push result.
+    /// `a[b]`: pop index, pop obj, push result.
     BinarySubscr = 75,
-    /// a[b] = c: pop value, pop index, pop obj.
+    /// `a[b] = c`: pop value, pop index, pop obj.
     StoreSubscr = 76,
     /// Pop obj, push obj.attr. Operand: u16 name_id.
     LoadAttr = 77,
