@@ -1,5 +1,5 @@
 //! Finds the archive of the proved library: the file that TOKENFINCH_ARCHIVE names, or else the one
-//! that `rt staticlib api` writes.
+//! that `tools/archive` writes.
 
 use std::{env, path::PathBuf, process};
 
@@ -10,7 +10,7 @@ fn main() {
         .nth(3)
         .expect("the package stands in tests/rust/compare");
     let archive =
-        env::var_os("TOKENFINCH_ARCHIVE").map_or_else(|| root.join("target/staticlib/libapi.a"), PathBuf::from);
+        env::var_os("TOKENFINCH_ARCHIVE").map_or_else(|| root.join("target/staticlib/libtokenfinch.a"), PathBuf::from);
     println!("cargo::rerun-if-env-changed=TOKENFINCH_ARCHIVE");
     println!("cargo::rerun-if-changed={}", archive.display());
     if env::var("CARGO_CFG_TARGET_ARCH").as_deref() != Ok("x86_64") {
@@ -18,7 +18,7 @@ fn main() {
     }
     let Ok(archive) = archive.canonicalize() else {
         refuse(&format!(
-            "no archive at {}: run rt staticlib api in the repository first",
+            "no archive at {}: run tools/archive in the repository first",
             archive.display()
         ));
     };

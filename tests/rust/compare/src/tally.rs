@@ -76,9 +76,11 @@ impl Tally {
                 By::Header => "the header",
                 By::Text => "the reference",
             };
+            let [case, wanted, answer] =
+                [case.to_owned(), format!("{:?}", expected.answer), format!("{proved:?}")].map(cut);
             println!(
-                "compare: DIFFERENCE in {}: {case}: {by} says {:?}, the library {proved:?}",
-                self.area, expected.answer
+                "compare: DIFFERENCE in {}: {case}: {by} says {wanted}, the library {answer}",
+                self.area
             );
         } else if self.differences == PRINTED + 1 {
             println!("compare: more differences in {} are counted, not printed", self.area);
@@ -97,6 +99,16 @@ impl Tally {
     pub fn is_empty(&self) -> bool {
         self.with_rust + self.with_text == 0
     }
+}
+
+/// A text of which a screen can be filled, whole or its beginning.
+fn cut(mut text: String) -> String {
+    const SHOWN: usize = 2_000;
+    if let Some((end, _)) = text.char_indices().nth(SHOWN) {
+        text.truncate(end);
+        text.push_str(" ..");
+    }
+    text
 }
 
 impl fmt::Display for Tally {

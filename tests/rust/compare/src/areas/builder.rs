@@ -8,7 +8,7 @@ use crate::{
 };
 
 pub fn run(tally: &mut Tally, plan: &mut Plan) {
-    let program = script::program_at("replay");
+    let program = script::replay();
     let mut refusals = Refusals::default();
     let calls = plan.amount(1_500_000, 60_000);
     for made in script::programs(&mut plan.random, calls) {

@@ -15,7 +15,7 @@ use crate::{
 const BYTES: [u8; 14] = [0, 5, 88, 89, 91, 94, 101, 97, 105, 1, 0xfd, 0xfc, 0xfa, 0xff];
 
 pub fn run(tally: &mut Tally, plan: &mut Plan) {
-    let program = script::program_at("replay");
+    let program = script::replay();
     let mut refusals = Refusals::default();
     let decoder = Decoder::new();
     let most = plan.amount(4, 3);
@@ -140,6 +140,11 @@ fn edges(script: &mut Script) {
     }
     for bytes in [1_048_575, 1_048_576, 1_048_577, 1_048_600, 1_048_601] {
         script.say(format!("check_zeros {bytes} 131072"));
+        script.say(format!("check_zeros {bytes} {}", bytes + 1));
+    }
+    for cells in [2_000_000, 2_000_001] {
+        script.say(format!("check_zeros 1048576 {cells}"));
+        script.say(format!("check_slice {cells} 0565 0 0"));
     }
     for line in [
         "check 05 0",
@@ -155,4 +160,8 @@ fn edges(script: &mut Script) {
     script.say(format!("check {}", "05".repeat(4_000)));
     script.say(format!("check {} 0 0", "05".repeat(4_000)));
     script.say(format!("check {}", "05".repeat(4_001)));
+    script.say(format!("check {}", "05".repeat(500_000)));
+    script.say(format!("check {} 0 0", "05".repeat(500_000)));
+    script.say(format!("check {} 0 7", "69".repeat(500_000)));
+    script.say(format!("check {}", "05".repeat(500_001)));
 }

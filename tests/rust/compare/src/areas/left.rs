@@ -18,7 +18,7 @@ struct Case {
 }
 
 pub fn run(tally: &mut Tally, _: &mut Plan) {
-    let program = script::program_at("replay");
+    let program = script::replay();
     for Case { lines, rust } in cases() {
         let mut sequence = Sequence::default();
         let calls = lines.iter().map(|line| match parse(line.as_bytes()) {

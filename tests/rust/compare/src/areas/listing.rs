@@ -21,7 +21,7 @@ use crate::{
 const MOST: usize = 65_536;
 
 pub fn run(tally: &mut Tally, plan: &mut Plan) {
-    let program = script::program_at("listing");
+    let program = script::listing();
     let folder = env::temp_dir().join(format!("tokenfinch-listing-{}", process::id()));
     fs::create_dir_all(&folder).expect("a folder for the inputs");
     let run = Run {

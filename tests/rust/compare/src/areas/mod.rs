@@ -15,6 +15,7 @@ mod instructions;
 mod left;
 mod listing;
 mod lookups;
+mod moved;
 mod name;
 mod shape;
 mod size;
@@ -25,7 +26,7 @@ use crate::{Plan, original, tally::Tally};
 
 pub type Area = fn(&mut Tally, &mut Plan);
 
-pub const ALL: [(&str, Area); 18] = [
+pub const ALL: [(&str, Area); 19] = [
     ("shape", shape::run),
     ("effect", effect::run),
     ("taken", taken::run),
@@ -44,6 +45,7 @@ pub const ALL: [(&str, Area); 18] = [
     ("builder", builder::run),
     ("checker", checks::run),
     ("left behind", left::run),
+    ("moved", moved::run),
 ];
 
 /// An opcode for a printed case: its number, and its name where it has one.

@@ -127,11 +127,7 @@ pub fn noise(random: &mut Random, lines: usize) -> Script {
             4 => line.extend(b" 1"),
             5 => line.extend(b" "),
             6 => line.insert(0, b' '),
-            7 => line.extend(vec![
-                b'1';
-                [1, 25, 8_192 - line.len(), 8_193 - line.len(), 9_000]
-                    [random.below(5)]
-            ]),
+            7 => line.extend(vec![b'1'; [1, 25, 200, 8_192, 9_000][random.below(5)]]),
             8 => line = (0..random.below(30)).map(|_| random.u8()).collect(),
             9 => line.insert(0, b'#'),
             10 => line = given(random).into_bytes(),

@@ -2,7 +2,10 @@
 
 use monty::bytecode::op::Opcode::*;
 
-use super::{Script, parse::TABLES};
+use super::{
+    Script,
+    parse::{BYTES_MOST, LINE_MOST, TABLES},
+};
 
 /// Tables with room for everything but code.
 const ROOM: &str = "60 60 4 40 40 8";
@@ -17,6 +20,8 @@ pub fn limits() -> Vec<(&'static str, Script)> {
         ("code at its limit", long_code()),
         ("wide numbers", wide_numbers()),
         ("every opcode by every call", every_call()),
+        ("lines at their limit", long_lines()),
+        ("tables at their limits", large_tables()),
     ]
 }
 
@@ -297,6 +302,64 @@ fn every_call() -> Script {
             script.say(format!("effect {op} {shape} 200 0 0 9"));
             script.say(format!("effect {op} {shape} 0 0 0 0"));
         }
+    }
+    script
+}
+
+/// The longest lines and bytes, and what is one too long.
+fn long_lines() -> Script {
+    let mut script = Script::default();
+    for length in [LINE_MOST - 1, LINE_MOST, LINE_MOST + 1, 3 * LINE_MOST] {
+        for first in ["#", "7"] {
+            script.say(first.repeat(length));
+            script.say("shape 5");
+        }
+    }
+    let starts = (LINE_MOST - "check 05".len()) / " 0 0".len();
+    for count in [starts, starts + 1] {
+        script.say(format!("check 05{}", " 0 0".repeat(count)));
+    }
+    for bytes in [BYTES_MOST, BYTES_MOST + 1] {
+        script.say(format!("step {} {}", "69".repeat(bytes), BYTES_MOST - 1));
+    }
+    script
+}
+
+/// Tables of the greatest lengths, each one cell longer, and the checker over all that the code's table holds.
+fn large_tables() -> Script {
+    let mut script = Script::default();
+    let most = [1_048_640, 65_600, 65_600, 65_600, 65_600, 65_600, 65_600];
+    let sizes = |longer: Option<usize>| -> String {
+        let size = |(table, cells): (usize, &usize)| format!(" {}", cells + usize::from(longer == Some(table)));
+        most.iter().enumerate().map(size).collect()
+    };
+    script.say(format!("new live 0{}", sizes(None)));
+    seen(&mut script);
+    for table in 0..7 {
+        script.say(format!("new live 0{}", sizes(Some(table))));
+        script.say(format!("new dead{}", sizes(Some(table))));
+    }
+    for (table, rows) in TABLES
+        .iter()
+        .zip([1_048_640, 10_933, 10_933, 65_600, 65_600, 16_400, 32_800])
+    {
+        for count in [rows, rows + 1] {
+            script.say(format!("tamper {table} {count}"));
+            for line in [
+                "check_here",
+                "location_for_offset 9",
+                "find_exception_handler 9",
+                "constant 65599",
+                "local_name 65599",
+            ] {
+                script.say(line);
+            }
+        }
+        script.say(format!("tamper {table} 0"));
+    }
+    for count in [131_071, 131_072, 1_048_576, 1_048_577] {
+        script.say(format!("tamper code {count}"));
+        script.say("check_here");
     }
     script
 }

@@ -11,7 +11,7 @@ mod run;
 pub use chaos::{noise, records, tampered};
 pub use limits::limits;
 pub use program::programs;
-pub use run::{Refusals, command, program_at, stored};
+pub use run::{Refusals, command, listing, replay, stored};
 
 use crate::original::Sequence;
 use model::Model;

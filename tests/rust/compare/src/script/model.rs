@@ -705,9 +705,6 @@ impl Model {
     fn check_here(&self) -> Option<String> {
         let code: Vec<u8> = self.used(CODE)?.iter().map(|&byte| byte as u8).collect();
         let starts: Vec<u32> = self.used(STARTS)?.iter().map(|&cell| cell as u32).collect();
-        if code.len() > 131_071 {
-            return None;
-        }
         let mut slice = filled(code.len() + 1);
         Some(match self.check(&code, &starts, &mut slice) {
             Ok(count) => format!("ok {count} {}", sum(slice)),

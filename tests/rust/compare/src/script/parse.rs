@@ -4,10 +4,10 @@
 pub const ABSENT: i128 = -1;
 
 /// The longest line, without its end.
-const LINE_MOST: usize = 8_192;
+pub const LINE_MOST: usize = 1_048_576;
 
 /// The most bytes that can be given in hexadecimal.
-const BYTES_MOST: usize = 4_000;
+pub const BYTES_MOST: usize = 500_000;
 
 /// The most names in a list.
 const NAMES_MOST: usize = 300;
@@ -32,11 +32,14 @@ pub const TABLES: [&str; 7] = [
 ];
 
 /// The most cells of each table.
-const CELLS_MOST: [i128; 7] = [1_048_640, 65_536, 65_536, 65_540, 65_540, 65_536, 65_536];
+const CELLS_MOST: [i128; 7] = [1_048_640, 65_600, 65_600, 65_600, 65_600, 65_600, 65_600];
+
+/// The most cells of a slice of depths.
+const DEPTHS_MOST: i128 = 2_000_000;
 
 /// Each call with the kinds of its words: b u8, h u16, w u32, q u64, i i8, k 0 or 1, t `dead` or u64, d `dead` or u16,
 /// f `none` or 0 to 9, T a table, x bytes, n u16 names to the end, m u32 names to the end, p u32 numbers to the end,
-/// c cells of a slice, z bytes of 105, r cells for those.
+/// c cells of a slice, z bytes of 105.
 const CALLS: [(&str, &str); 57] = [
     ("set_location", "ww"),
     ("set_location", "wwww"),
@@ -89,7 +92,7 @@ const CALLS: [(&str, &str); 57] = [
     ("step", "xq"),
     ("check", "xp"),
     ("check_slice", "cxp"),
-    ("check_zeros", "zr"),
+    ("check_zeros", "zc"),
     ("check_here", ""),
     // The rest is read by more than the kinds of its words.
     ("tamper depth", "d"),
@@ -179,9 +182,8 @@ fn one_word(kind: char, word: &str, call: &mut Call) -> Option<()> {
         'd' => or_word(word, "dead", 65_535)?,
         'f' => or_word(word, "none", 9)?,
         'T' => TABLES.iter().position(|table| table == &word)? as i128,
-        'c' => natural(word, 8_192)?,
+        'c' => natural(word, DEPTHS_MOST)?,
         'z' => natural(word, 1_048_600)?,
-        'r' => natural(word, 131_072)?,
         '0'..='6' => natural(word, CELLS_MOST[kind as usize - '0' as usize])?,
         _ => unreachable!("no kind {kind}"),
     });

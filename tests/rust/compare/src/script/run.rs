@@ -51,12 +51,21 @@ fn root() -> PathBuf {
         .to_owned()
 }
 
-/// A program of the repository, which `rt check NAME` builds.
-pub fn program_at(name: &str) -> PathBuf {
-    let program = root().join("target/bin").join(name);
+/// The proved program that prints listings, which `rt check listing` builds.
+pub fn listing() -> PathBuf {
+    program_at("target/bin/listing", "rt check listing")
+}
+
+/// The program that runs scripts, over the archive that is compared, which tests/rust/run builds.
+pub fn replay() -> PathBuf {
+    program_at("target/cargo/x86_64-unknown-linux-gnu/release/replay", "tests/rust/run")
+}
+
+fn program_at(place: &str, made_by: &str) -> PathBuf {
+    let program = root().join(place);
     if !program.is_file() {
         eprintln!(
-            "compare: no program at {}: run rt check {name} in the repository first",
+            "compare: no program at {}: run {made_by} in the repository first",
             program.display()
         );
         process::exit(1);
@@ -76,10 +85,10 @@ pub fn command(program: &Path) -> Command {
     }
 }
 
-/// The script that rt runs with the program, and the answers that are stored for it.
+/// The script that the program's own tests run, and the answers that are stored for it.
 pub fn stored() -> (Vec<u8>, Vec<u8>) {
-    let read = |name: &str| fs::read(root().join("crates/replay").join(name)).expect("the stored script is there");
-    (read("stdin"), read("stdout"))
+    let read = |name: &str| fs::read(root().join("cli/tests/replay").join(name)).expect("the stored script is there");
+    (read("script"), read("answers"))
 }
 
 impl Script {

@@ -1,0 +1,153 @@
+//! `rules check`: the listing of a rule with the depth of the stack in front of each line, or why there are no depths.
+
+use std::{
+    ffi::{OsStr, OsString},
+    io::{self, BufWriter, Write},
+    sync::mpsc::{self, RecvTimeoutError},
+    thread,
+    time::Duration,
+};
+
+use tokenfinch::{Checked, Instruction, Refusal, check, instructions};
+
+use super::{Outcome, paths, read, said};
+
+/// The most bytes of a rule.
+const CODE_MOST: u64 = 1_048_576;
+
+pub fn run(file: &OsStr, starts: &[OsString]) -> Outcome {
+    let starts = if starts.is_empty() {
+        vec![0, 0]
+    } else {
+        let read: Option<Vec<[u32; 2]>> = starts.iter().map(|word| start(word)).collect();
+        let wrong = || starts.iter().find(|word| start(word).is_none());
+        read.ok_or_else(|| {
+            said(format!(
+                "no start OFFSET:DEPTH: {}",
+                wrong().map_or("".into(), |w| w.to_string_lossy())
+            ))
+        })?
+        .concat()
+    };
+    // One byte more than a rule may have tells that it has too many, without reading on.
+    let code = read(file, CODE_MOST + 1)?;
+    let mut out = BufWriter::new(io::stdout().lock());
+    let accepted = match with_patience(|| check(&code, &starts)) {
+        Ok(checked) => {
+            print_all(&mut out, &code, &checked)?;
+            true
+        }
+        Err(refusal) => {
+            print_refusal(&mut out, &code, &starts, refusal)?;
+            false
+        }
+    };
+    out.flush()?;
+    Ok(accepted)
+}
+
+/// A start: two numbers of digits alone.
+fn start(word: &OsStr) -> Option<[u32; 2]> {
+    let number = |text: &str| {
+        text.bytes()
+            .all(|byte| byte.is_ascii_digit())
+            .then(|| text.parse().ok())?
+    };
+    let (offset, depth) = word.to_str()?.split_once(':')?;
+    Some([number(offset)?, number(depth)?])
+}
+
+/// Says each second that the work goes on: its time can grow with the square of the code's length.
+fn with_patience<T>(work: impl FnOnce() -> T) -> T {
+    thread::scope(|scope| {
+        let (done, waiting) = mpsc::channel::<()>();
+        scope.spawn(move || {
+            while waiting.recv_timeout(Duration::from_secs(1)) == Err(RecvTimeoutError::Timeout) {
+                eprintln!("rules: still at work ..");
+            }
+        });
+        let result = work();
+        drop(done);
+        result
+    })
+}
+
+/// The whole listing of code that was accepted.
+fn print_all(out: &mut impl Write, code: &[u8], checked: &Checked) -> io::Result<()> {
+    writeln!(out, "depth\toffset\tname\toperands\ttarget")?;
+    for instruction in instructions(code).flatten() {
+        print_depth(out, checked, instruction.offset())?;
+        print_line(out, &instruction)?;
+    }
+    print_depth(out, checked, code.len())?;
+    writeln!(out, "{}\tend\t-\t-", code.len())
+}
+
+fn print_depth(out: &mut impl Write, checked: &Checked, offset: usize) -> io::Result<()> {
+    match checked.depth_at(offset) {
+        Some(depth) => write!(out, "{depth}\t"),
+        None => write!(out, "-\t"),
+    }
+}
+
+fn print_line(out: &mut impl Write, instruction: &Instruction<'_>) -> io::Result<()> {
+    write!(out, "{}\t{:?}\t", instruction.offset(), instruction.opcode())?;
+    let mut parted = "";
+    for value in instruction.values() {
+        write!(out, "{parted}{value}")?;
+        parted = ",";
+    }
+    if parted.is_empty() {
+        write!(out, "-")?;
+    }
+    match instruction.target() {
+        Some(target) => writeln!(out, "\t{target}"),
+        None => writeln!(out, "\t-"),
+    }
+}
+
+/// The refusal in words; for 23 also where the paths from the starts first show it.
+fn print_refusal(out: &mut impl Write, code: &[u8], starts: &[u32], refusal: Refusal) -> io::Result<()> {
+    match refusal {
+        Refusal::TooLarge => writeln!(out, "refused 10: the code is over 1,048,576 bytes"),
+        Refusal::NoDepths => {
+            writeln!(out, "{refusal}")?;
+            match paths::conflict(code, starts) {
+                Some(conflict) => writeln!(out, "{conflict}"),
+                None => Ok(()),
+            }
+        }
+        other => writeln!(out, "{other}"),
+    }
+}
+
+#[cfg(test)]
+mod tests {
+    use super::*;
+
+    #[test]
+    fn starts_are_two_numbers() {
+        assert_eq!(start("0:0".as_ref()), Some([0, 0]));
+        assert_eq!(start("4294967295:65536".as_ref()), Some([u32::MAX, 65_536]));
+        for word in [
+            "",
+            ":",
+            "0",
+            "0:",
+            ":0",
+            "0:0:0",
+            "-1:0",
+            "+1:0",
+            "0:4294967296",
+            "0 :0",
+            "a:b",
+        ] {
+            assert_eq!(start(word.as_ref()), None, "{word}");
+        }
+    }
+
+    #[test]
+    fn what_takes_long_is_waited_for() {
+        assert_eq!(with_patience(|| 7), 7);
+    }
+}
