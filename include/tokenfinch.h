@@ -1,11 +1,14 @@
-/* tokenfinch.h: the opcode rules, the decoder, the instruction writer, the depth checker and the lookups, for C.
+/* tokenfinch.h: the opcode rules, the decoder, the instruction writer, the depth checker, the lookups and the builder,
+ * for C and C++.
  *
  * The functions are proved: each one ends for every argument and answers what is said beside it,
- * and none of them trusts its caller. They keep no state and may be called from any thread.
- * Link with libapi.a (the README has the two lines).
+ * and none of them trusts its caller. They keep nothing between calls and may be called from any thread. Arrays that
+ * are lent to one call must not overlap, and no other thread may write to them meanwhile.
+ * Link with libtokenfinch.a (docs/C.md).
  *
  * An answer is one 64-bit number. Its upper half is 0, or the number of the refusal; its lower half
- * is the value, in two's complement where it can be negative. tf_refusal and tf_value take it apart:
+ * is the value, in two's complement where it can be negative, or what the refusal names. tf_refusal, tf_value and
+ * tf_named take it apart:
  *
  *     tf_answer a = tf_stack_effect(TF_OP_BUILD_LIST, TF_SHAPE_U16, 3, 0, 0, 0);
  *     if (tf_refusal(a) == 0) printf("%d\n", (int)tf_value(a));        prints -2
@@ -25,23 +28,45 @@ typedef uint64_t tf_answer;
 /* The refusal's number; 0 where the call was accepted. */
 static inline uint32_t tf_refusal(tf_answer a) { return (uint32_t)(a >> 32); }
 
-/* The value of an accepted call; 0 after a refusal. */
+/* The value of an accepted call; after a refusal the lower half is what that names, and this is not for it. */
 static inline int32_t tf_value(tf_answer a) { return (int32_t)(uint32_t)(a & 0xFFFFFFFFu); }
+
+/* What a refusal names: for 18 the table, TF_TABLE_..; for 22, and for 1 of an opcode that was read from code, the
+ * offset modulo 2^32; else 0. */
+static inline uint32_t tf_named(tf_answer a) { return (uint32_t)(a & 0xFFFFFFFFu); }
 
 /* The refusals that the functions of this header give. */
 enum {
-    TF_UNKNOWN_OPCODE = 1,   /* the opcode is above 130 */
-    TF_WRONG_SHAPE = 2,      /* the operand is not of the opcode's shape */
-    TF_NOT_A_JUMP = 3,       /* the opcode is no jump */
-    TF_DEPTH_BELOW_ZERO = 4, /* the depth would fall below 0 */
-    TF_DEPTH_TOO_LARGE = 5,  /* the depth would rise above 65,535, or a taken depth fall below 0 */
-    TF_TOO_MANY_NAMES = 7,   /* over 255 keyword names */
-    TF_TOO_LARGE = 10,       /* the code is over 1,048,576 bytes */
-    TF_FULL = 18,            /* too little room where the answer is to be written */
-    TF_BAD_STARTS = 20,      /* an odd number of them, a depth over 65,535, or an offset that is no place in the code */
-    TF_SHORT_DEPTHS = 21,    /* fewer depths than bytes of code and one */
-    TF_CUT_SHORT = 22,       /* an instruction is cut short by the code's end */
-    TF_NO_DEPTHS = 23        /* no depths can be given to the instructions */
+    TF_UNKNOWN_OPCODE = 1,      /* the opcode is above 130 */
+    TF_WRONG_SHAPE = 2,         /* the operand is not of the opcode's shape, or an argument is too large */
+    TF_NOT_A_JUMP = 3,          /* the opcode is no jump */
+    TF_DEPTH_BELOW_ZERO = 4,    /* the depth would fall below 0 */
+    TF_DEPTH_TOO_LARGE = 5,     /* the depth would rise above 65,535, or a taken depth fall below 0 */
+    TF_JUMP_TOO_FAR = 6,        /* the displacement would be outside -32,768 to 32,767 */
+    TF_TOO_MANY_NAMES = 7,      /* over 255 keyword names */
+    TF_NAME_TOO_LARGE = 8,      /* the name is over 65,535 */
+    TF_TOO_MANY_CONSTANTS = 9,  /* 65,536 constants are held */
+    TF_TOO_LARGE = 10,          /* the code is over 1,048,576 bytes, or a handler's offset over 4,294,967,295 */
+    TF_DEPTHS_DIFFER = 11,      /* a jump meets another depth */
+    TF_DEAD_TARGET = 12,        /* a live jump to a dead target */
+    TF_NO_SUCH_MARK = 13,       /* no label or target of that row */
+    TF_ALREADY_PATCHED = 14,    /* the label is patched already */
+    TF_REGION_WHILE_LIVE = 15,  /* a region is opened while the code is live */
+    TF_NAMES_HELD = 16,         /* names are registered at once while names are held */
+    TF_OPEN_LABEL = 17,         /* the body is finished while a label is not patched */
+    TF_FULL = 18,               /* too little room where the answer is to be written, or in a table; names which */
+    TF_UNSOUND = 19,            /* no builder: a state that is none, or one that its tables are too short for */
+    TF_BAD_STARTS = 20,         /* an odd number, a depth over 65,535, or an offset that is no place in the code */
+    TF_SHORT_DEPTHS = 21,       /* fewer depths than bytes of code and one */
+    TF_CUT_SHORT = 22,          /* an instruction is cut short by the code's end */
+    TF_NO_DEPTHS = 23           /* no depths can be given to the instructions */
+};
+
+/* What tf_named says of 18: what is too short. */
+enum {
+    TF_TABLE_CODE = 1, TF_TABLE_LOCATIONS = 2, TF_TABLE_EXCEPTIONS = 3, TF_TABLE_CONSTANTS = 4, TF_TABLE_NAMES = 5,
+    TF_TABLE_MARKS = 6, TF_TABLE_STARTS = 7,
+    TF_TABLE_TEXT = 8 /* no table: out, of a function that writes to its front */
 };
 
 /* The opcodes, in op.rs's numbers. */
@@ -250,6 +275,393 @@ tf_answer tf_constant(const uint64_t *constants, size_t length, size_t index, ui
  * Value 1, or 0 past the end of names and where the cell is 0 or above 4,294,967,296.
  * Refuses: 18 where there is one and room is 0. */
 tf_answer tf_local_name(const uint64_t *names, size_t length, size_t slot, uint64_t *out, size_t room);
+
+/* ---- The builder
+ *
+ * CodeBuilder by the Rust's own names and with its arguments in their order: a tf_builder in front, and behind them
+ * where an accepted call writes what it answers. The caller lends all memory: the state and seven tables, each with its
+ * length in elements. They must not overlap, and a pointer may be null where its length is 0. What is lent is not
+ * trusted: what is no state, or counts more rows than its table has, is refused by 19.
+ *
+ *     uint8_t code[64];
+ *     uint32_t starts[TF_START_CELLS];
+ *     tf_builder b = {.code = code, .code_length = sizeof code, .starts = starts, .starts_length = TF_START_CELLS};
+ *     tf_new(&b, 0);
+ *     tf_emit(&b, TF_OP_LOAD_NONE);
+ *     tf_emit(&b, TF_OP_RETURN_VALUE);                                 code's first b.state.code bytes are the body
+ *
+ * A refused call changes no element of the state or of a table. So where a table is full, make it larger and call
+ * again. Of code at most 1,048,576 bytes are used, however many are lent.
+ *
+ *     tf_answer a;
+ *     while (tf_refusal(a = tf_emit(&b, TF_OP_POP)) == TF_FULL)
+ *         if (!larger(&b, tf_named(a)))                                yours: enlarges the table of that number and
+ *             break;                                                   keeps what it holds; 0 where it can't
+ *     if (a != 0) ...                                                  refused
+ *
+ * Refusals stand in the order in which they are looked for. Behind "live" are those of live code: dead code is accepted
+ * and nothing is written. 18 names the first table without room, of code, locations, marks.
+ */
+
+/* The elements that a row of a table takes; a part of a row at a table's end is no room. */
+enum { TF_LOCATION_CELLS = 6, TF_EXCEPTION_CELLS = 6, TF_MARK_CELLS = 4, TF_START_CELLS = 2 };
+
+/* What a builder holds beside its tables. Read it at will; only the calls should write it. */
+typedef struct tf_state {
+    uint64_t value; /* what the last accepted call answered; 0 where it answers nothing */
+    uint64_t code, locations, marks; /* how much of each table is used: bytes of code, rows of the others */
+    uint64_t depth; /* 0 to 65,535, or TF_NO_DEPTH in dead code */
+    uint64_t exceptions, constants, names, starts; /* used rows */
+    uint64_t has_location, start, end; /* 1 where a location is set, else 0, and what was set */
+    uint64_t has_focus, focus_start, focus_end; /* likewise its focus */
+    uint64_t clause, table; /* room for what is to come; neither read nor written */
+} tf_state;
+
+enum { TF_STATE_CELLS = 17 };
+typedef char tf_state_has_no_padding[sizeof(tf_state) == TF_STATE_CELLS * sizeof(uint64_t) ? 1 : -1];
+
+/* A builder. The functions that read a table are lent its used part: b.starts, b.state.starts * TF_START_CELLS. */
+typedef struct tf_builder {
+    tf_state state;
+    uint8_t *code;        size_t code_length;       /* the instructions */
+    uint32_t *locations;  size_t locations_length;  /* what tf_location_for_offset looks in */
+    uint32_t *exceptions; size_t exceptions_length; /* what tf_find_exception_handler looks in */
+    uint64_t *constants;  size_t constants_length;  /* what tf_constant looks in */
+    uint64_t *names;      size_t names_length;      /* what tf_local_name looks in */
+    uint32_t *marks;      size_t marks_length;      /* the labels and targets; of no use behind tf_build */
+    uint32_t *starts;     size_t starts_length;     /* what tf_check takes as starts */
+} tf_builder;
+
+/* A jump that has to be patched, and a place to jump back to: the row of its mark, or TF_DEAD of dead code. */
+#define TF_DEAD UINT64_MAX
+typedef struct tf_label { uint64_t row; } tf_label;
+typedef struct tf_target { uint64_t row; } tf_target;
+
+/* Where something stands in the source. */
+typedef struct tf_range { uint32_t start, end; } tf_range;
+
+/* What a handler does with the exception. */
+enum { TF_CONSUMING = 0, TF_CLEANUP = 1 };
+
+/* The library's own functions, for callers in other languages; in C use those below. state is TF_STATE_CELLS numbers
+ * in tf_state's order, and what a call answers stands in state[0] behind it. Behind 19 they refuse by 2 an argument
+ * that is too large: a call over 16, a byte over 255, a word over 65,535, a depth over TF_NO_DEPTH, a flag or kind
+ * over 1. */
+tf_answer tfb_new(uint32_t depth, uint64_t *state, size_t cells, uint32_t *starts, size_t starts_length);
+tf_answer tfb_set_location(uint32_t start, uint32_t end, uint8_t has_focus, uint32_t focus_start, uint32_t focus_end,
+                           uint64_t *state, size_t cells);
+tf_answer tfb_emit(uint8_t call, uint8_t opcode, uint16_t a, uint32_t b, uint8_t c, const uint16_t *names, size_t count,
+                   uint64_t *state, size_t cells, uint8_t *code, size_t code_length, uint32_t *locations,
+                   size_t locations_length);
+tf_answer tfb_emit_jump(uint8_t opcode, uint64_t *state, size_t cells, uint8_t *code, size_t code_length,
+                        uint32_t *locations, size_t locations_length, uint32_t *marks, size_t marks_length);
+tf_answer tfb_patch_jump(uint64_t label, uint64_t *state, size_t cells, uint8_t *code, size_t code_length,
+                         uint32_t *marks, size_t marks_length);
+tf_answer tfb_emit_jump_to(uint8_t opcode, uint64_t target, uint64_t *state, size_t cells, uint8_t *code,
+                           size_t code_length, uint32_t *locations, size_t locations_length, const uint32_t *marks,
+                           size_t marks_length);
+tf_answer tfb_current_jump_target(uint64_t *state, size_t cells, uint32_t *marks, size_t marks_length);
+tf_answer tfb_register_local_names(const uint32_t *names, size_t count, uint64_t *state, size_t cells, uint64_t *table,
+                                   size_t table_length);
+tf_answer tfb_register_local_name(uint16_t slot, uint32_t name, uint64_t *state, size_t cells, uint64_t *table,
+                                  size_t table_length);
+tf_answer tfb_add_const(uint64_t value, uint64_t *state, size_t cells, uint64_t *constants, size_t constants_length);
+tf_answer tfb_add_exception_entry(size_t start, size_t end, size_t handler, uint16_t stack_depth,
+                                  uint16_t exception_stack_count, uint8_t kind, uint64_t *state, size_t cells,
+                                  uint32_t *exceptions, size_t exceptions_length);
+tf_answer tfb_new_code_region(uint16_t depth, uint64_t *state, size_t cells, uint32_t *starts, size_t starts_length);
+tf_answer tfb_build(uint32_t fill, uint64_t *state, size_t cells, uint64_t *names, size_t names_length,
+                    const uint32_t *marks, size_t marks_length);
+
+/* What tfb_look writes, by its place in out. */
+enum {
+    TF_LOOK_OFFSET = 0, /* where the next instruction will stand */
+    TF_LOOK_DEPTH = 1,  /* TF_NO_DEPTH in dead code */
+    TF_LOOK_DEAD = 2,   /* 1 in dead code, else 0 */
+    TF_LOOK_START = 3, TF_LOOK_END = 4, /* of the location that was set; 0 where none was */
+    TF_LOOK_CELLS = 5
+};
+
+/* Writes what a builder tells of itself to the front of out, which has room elements.
+ * Refuses: 19, 18. */
+tf_answer tfb_look(const uint64_t *state, size_t cells, uint64_t *out, size_t room);
+
+/* The calls of tfb_emit, and what each takes of a, b, c and the names. It doesn't look at the others, but in live code
+ * names that are lent to a call without names are refused by 2. */
+enum {
+    TF_CALL_EMIT = 0,                   /* opcode */
+    TF_CALL_U8 = 1,                     /* opcode, a */
+    TF_CALL_I8 = 2,                     /* opcode, a: the byte of a signed number */
+    TF_CALL_U8_U8 = 3,                  /* opcode, a, b */
+    TF_CALL_U16 = 4,                    /* opcode, a */
+    TF_CALL_U16_U16 = 5,                /* opcode, a, b */
+    TF_CALL_U16_U8 = 6,                 /* opcode, a, b */
+    TF_CALL_U16_U8_U8 = 7,              /* opcode, a, b, c */
+    TF_CALL_CALL_BUILTIN_FUNCTION = 8,  /* a: the function, b: the count of arguments */
+    TF_CALL_CALL_BUILTIN_TYPE = 9,      /* a: the type, b: the count of arguments */
+    TF_CALL_CALL_FUNCTION_KW = 10,      /* a: the positional count; the names */
+    TF_CALL_CALL_ATTR_KW = 11,          /* a: the attribute, b: the positional count; the names */
+    TF_CALL_RAISE_UNBOUND_LOCAL = 12,   /* b: the name */
+    TF_CALL_LOAD_GLOBAL_CALLABLE = 13,  /* a: the slot, b: the name */
+    TF_CALL_NAME_OP = 14,               /* opcode, a: the slot, b: the name, c: the flags */
+    TF_CALL_LOAD_LOCAL = 15,            /* a: the slot */
+    TF_CALL_STORE_LOCAL = 16            /* a: the slot */
+};
+
+static inline uint64_t *tf_cells(tf_builder *b) { return (uint64_t *)(void *)&b->state; }
+
+/* Makes a builder with nothing in it: live at a depth of 0 to 65,535, whose start it stores, or dead with TF_NO_DEPTH.
+ * What the state held does not matter.
+ * Refuses: 2 for a depth above that, 18. */
+static inline tf_answer tf_new(tf_builder *b, uint32_t depth)
+{
+    return tfb_new(depth, tf_cells(b), TF_STATE_CELLS, b->starts, b->starts_length);
+}
+
+/* Sets the source location of the instructions to come; focus is null where there is none.
+ * Refuses: 19. */
+static inline tf_answer tf_set_location(tf_builder *b, tf_range range, const tf_range *focus)
+{
+    return tfb_set_location(range.start, range.end, focus != NULL, focus != NULL ? focus->start : 0,
+                            focus != NULL ? focus->end : 0, tf_cells(b), TF_STATE_CELLS);
+}
+
+/* What the emitting calls below share. */
+static inline tf_answer tf_emit_by(tf_builder *b, uint8_t call, uint8_t op, uint16_t x, uint32_t y, uint8_t z,
+                                   const uint16_t *names, size_t count)
+{
+    return tfb_emit(call, op, x, y, z, names, count, tf_cells(b), TF_STATE_CELLS, b->code, b->code_length, b->locations,
+                    b->locations_length);
+}
+
+/* Emits an instruction without an operand, and follows the depth.
+ * Refuses: 19, 1; live 2, 4, 5, 18. */
+static inline tf_answer tf_emit(tf_builder *b, uint8_t op) { return tf_emit_by(b, TF_CALL_EMIT, op, 0, 0, 0, NULL, 0); }
+
+/* Emits an instruction with a byte.
+ * Refuses: 19, 1; live 2, 4, 5, 18. */
+static inline tf_answer tf_emit_u8(tf_builder *b, uint8_t op, uint8_t operand)
+{
+    return tf_emit_by(b, TF_CALL_U8, op, operand, 0, 0, NULL, 0);
+}
+
+/* Emits an instruction with a signed byte.
+ * Refuses: 19, 1; live 2, 5, 18. */
+static inline tf_answer tf_emit_i8(tf_builder *b, uint8_t op, int8_t operand)
+{
+    return tf_emit_by(b, TF_CALL_I8, op, (uint8_t)operand, 0, 0, NULL, 0);
+}
+
+/* Emits an instruction with two bytes: UnpackEx, with the counts before and after.
+ * Refuses: 19, 1; live 2, 4, 5, 18. */
+static inline tf_answer tf_emit_u8_u8(tf_builder *b, uint8_t op, uint8_t operand1, uint8_t operand2)
+{
+    return tf_emit_by(b, TF_CALL_U8_U8, op, operand1, operand2, 0, NULL, 0);
+}
+
+/* Emits an instruction with a word.
+ * Refuses: 19, 1; live 2, 4, 5, 18. */
+static inline tf_answer tf_emit_u16(tf_builder *b, uint8_t op, uint16_t operand)
+{
+    return tf_emit_by(b, TF_CALL_U16, op, operand, 0, 0, NULL, 0);
+}
+
+/* Emits an instruction with two words: LoadSubmodule, with the attribute and the dotted path.
+ * Refuses: 19, 1; live 2, 5, 18. */
+static inline tf_answer tf_emit_u16_u16(tf_builder *b, uint8_t op, uint16_t operand1, uint16_t operand2)
+{
+    return tf_emit_by(b, TF_CALL_U16_U16, op, operand1, operand2, 0, NULL, 0);
+}
+
+/* Emits an instruction with a word and a byte: MakeFunction, CallAttr, CallAttrExtended.
+ * Refuses: 19, 1; live 2, 4, 5, 18. */
+static inline tf_answer tf_emit_u16_u8(tf_builder *b, uint8_t op, uint16_t operand1, uint8_t operand2)
+{
+    return tf_emit_by(b, TF_CALL_U16_U8, op, operand1, operand2, 0, NULL, 0);
+}
+
+/* Emits an instruction with a word and two bytes: MakeClosure, with the function and the counts of defaults and cells.
+ * Refuses: 19, 1; live 2, 4, 5, 18. */
+static inline tf_answer tf_emit_u16_u8_u8(tf_builder *b, uint8_t op, uint16_t operand1, uint8_t operand2,
+                                          uint8_t operand3)
+{
+    return tf_emit_by(b, TF_CALL_U16_U8_U8, op, operand1, operand2, operand3, NULL, 0);
+}
+
+/* Emits CallBuiltinFunction, with the function's number and the count of arguments.
+ * Refuses: 19; live 4, 5, 18. */
+static inline tf_answer tf_emit_call_builtin_function(tf_builder *b, uint8_t builtin_id, uint8_t arg_count)
+{
+    return tf_emit_by(b, TF_CALL_CALL_BUILTIN_FUNCTION, 0, builtin_id, arg_count, 0, NULL, 0);
+}
+
+/* Emits CallBuiltinType, with the type's number and the count of arguments.
+ * Refuses: 19; live 4, 5, 18. */
+static inline tf_answer tf_emit_call_builtin_type(tf_builder *b, uint8_t type_id, uint8_t arg_count)
+{
+    return tf_emit_by(b, TF_CALL_CALL_BUILTIN_TYPE, 0, type_id, arg_count, 0, NULL, 0);
+}
+
+/* Emits CallFunctionKw with its count keyword names, in the order in which their values were pushed.
+ * Refuses: 19; live 7, 4, 18. */
+static inline tf_answer tf_emit_call_function_kw(tf_builder *b, uint8_t pos_count, const uint16_t *kwname_ids,
+                                                 size_t count)
+{
+    return tf_emit_by(b, TF_CALL_CALL_FUNCTION_KW, 0, pos_count, 0, 0, kwname_ids, count);
+}
+
+/* Emits CallAttrKw with its count keyword names, in the order in which their values were pushed.
+ * Refuses: 19; live 7, 4, 18. */
+static inline tf_answer tf_emit_call_attr_kw(tf_builder *b, uint16_t attr_name_id, uint8_t pos_count,
+                                             const uint16_t *kwname_ids, size_t count)
+{
+    return tf_emit_by(b, TF_CALL_CALL_ATTR_KW, 0, attr_name_id, pos_count, 0, kwname_ids, count);
+}
+
+/* Emits a forward jump, whose target is not known yet, and writes the label to patch later. Behind Jump the code is
+ * dead. In dead code the label is TF_DEAD.
+ * Refuses: 19, 1; live 3, 5 of the depth where it is taken, 4, 5, 18. */
+static inline tf_answer tf_emit_jump(tf_builder *b, uint8_t op, tf_label *label)
+{
+    tf_answer a = tfb_emit_jump(op, tf_cells(b), TF_STATE_CELLS, b->code, b->code_length, b->locations,
+                                b->locations_length, b->marks, b->marks_length);
+    if (a == 0)
+        label->row = b->state.value;
+    return a;
+}
+
+/* Has a forward jump go to where the code now ends. Dead code is live again, at the label's depth.
+ * Refuses: 19; of a label that is not TF_DEAD 13, 14, 11, 6. */
+static inline tf_answer tf_patch_jump(tf_builder *b, tf_label label)
+{
+    return tfb_patch_jump(label.row, tf_cells(b), TF_STATE_CELLS, b->code, b->code_length, b->marks, b->marks_length);
+}
+
+/* Emits a jump back to a known target.
+ * Refuses: 19, 1; live 3, 5 of the depth where it is taken, 12 or 13, 11, 6, 4, 5, 18. */
+static inline tf_answer tf_emit_jump_to(tf_builder *b, uint8_t op, tf_target target)
+{
+    return tfb_emit_jump_to(op, target.row, tf_cells(b), TF_STATE_CELLS, b->code, b->code_length, b->locations,
+                            b->locations_length, b->marks, b->marks_length);
+}
+
+/* Writes the place and the depth here as a target to jump back to. In dead code the target is TF_DEAD.
+ * Refuses: 19; live 18. */
+static inline tf_answer tf_current_jump_target(tf_builder *b, tf_target *target)
+{
+    tf_answer a = tfb_current_jump_target(tf_cells(b), TF_STATE_CELLS, b->marks, b->marks_length);
+    if (a == 0)
+        target->row = b->state.value;
+    return a;
+}
+
+/* One of tfb_look's numbers; where the state is none, that of a dead builder without code. */
+static inline uint64_t tf_looked(const tf_builder *b, int place)
+{
+    uint64_t out[TF_LOOK_CELLS] = {0, TF_NO_DEPTH, 1, 0, 0};
+    tfb_look((const uint64_t *)(const void *)&b->state, TF_STATE_CELLS, out, TF_LOOK_CELLS);
+    return out[place];
+}
+
+/* Where the next instruction will stand. */
+static inline size_t tf_current_offset(const tf_builder *b) { return (size_t)tf_looked(b, TF_LOOK_OFFSET); }
+
+/* The source range that was set, for diagnostics; 0, 0 where none was. */
+static inline tf_range tf_current_position(const tf_builder *b)
+{
+    tf_range range;
+    range.start = (uint32_t)tf_looked(b, TF_LOOK_START);
+    range.end = (uint32_t)tf_looked(b, TF_LOOK_END);
+    return range;
+}
+
+/* The depth here, or TF_NO_DEPTH in dead code. */
+static inline uint32_t tf_stack_depth(const tf_builder *b) { return (uint32_t)tf_looked(b, TF_LOOK_DEPTH); }
+
+/* 1 in dead code, else 0. */
+static inline int tf_is_dead(const tf_builder *b) { return (int)tf_looked(b, TF_LOOK_DEAD); }
+
+/* Names the slots 0, 1, .. by count names in one pass, before any other name.
+ * Refuses: 19, 16, 18. */
+static inline tf_answer tf_register_local_names(tf_builder *b, const uint32_t *names, size_t count)
+{
+    return tfb_register_local_names(names, count, tf_cells(b), TF_STATE_CELLS, b->names, b->names_length);
+}
+
+/* Names a slot, where it has no name yet: the first name stays.
+ * Refuses: 19, 18. */
+static inline tf_answer tf_register_local_name(tf_builder *b, uint16_t slot, uint32_t name)
+{
+    return tfb_register_local_name(slot, name, tf_cells(b), TF_STATE_CELLS, b->names, b->names_length);
+}
+
+/* Emits RaiseUnboundLocal with the name that the error reports.
+ * Refuses: 19, 8; live 18. */
+static inline tf_answer tf_emit_raise_unbound_local(tf_builder *b, uint32_t name_id)
+{
+    return tf_emit_by(b, TF_CALL_RAISE_UNBOUND_LOCAL, 0, 0, name_id, 0, NULL, 0);
+}
+
+/* Emits the shortest load of a slot: 0 to 3 have opcodes of their own, then a byte, then a word.
+ * Refuses: 19; live 5, 18. */
+static inline tf_answer tf_emit_load_local(tf_builder *b, uint16_t slot)
+{
+    return tf_emit_by(b, TF_CALL_LOAD_LOCAL, 0, slot, 0, 0, NULL, 0);
+}
+
+/* Emits LoadGlobalCallable with its slot and its name: global slots are no local slots, so the name goes along.
+ * Refuses: 19, 8; live 5, 18. */
+static inline tf_answer tf_emit_load_global_callable(tf_builder *b, uint16_t slot, uint32_t name_id)
+{
+    return tf_emit_by(b, TF_CALL_LOAD_GLOBAL_CALLABLE, 0, slot, name_id, 0, NULL, 0);
+}
+
+/* Emits LoadName, StoreName or DeleteName with its slot, its name and its flags.
+ * Refuses: 19, 1, 8; live 2, 4, 5, 18. */
+static inline tf_answer tf_emit_name_op(tf_builder *b, uint8_t op, uint16_t slot, uint32_t name_id, uint8_t flags)
+{
+    return tf_emit_by(b, TF_CALL_NAME_OP, op, slot, name_id, flags, NULL, 0);
+}
+
+/* Emits the shorter store of a slot. Slots 0 to 3 have no opcodes of their own here.
+ * Refuses: 19; live 4, 18. */
+static inline tf_answer tf_emit_store_local(tf_builder *b, uint16_t slot)
+{
+    return tf_emit_by(b, TF_CALL_STORE_LOCAL, 0, slot, 0, 0, NULL, 0);
+}
+
+/* Adds a constant, and writes its index.
+ * Refuses: 19, 9, 18. */
+static inline tf_answer tf_add_const(tf_builder *b, uint64_t value, uint16_t *index)
+{
+    tf_answer a = tfb_add_const(value, tf_cells(b), TF_STATE_CELLS, b->constants, b->constants_length);
+    if (a == 0)
+        *index = (uint16_t)b->state.value;
+    return a;
+}
+
+/* Adds an exception handler of kind TF_CONSUMING or TF_CLEANUP. For nested blocks the innermost comes first.
+ * Refuses: 19, 2 for another kind, 10, 18. */
+static inline tf_answer tf_add_exception_entry(tf_builder *b, size_t start, size_t end, size_t handler,
+                                               uint16_t stack_depth, uint16_t exception_stack_count, uint8_t kind)
+{
+    return tfb_add_exception_entry(start, end, handler, stack_depth, exception_stack_count, kind, tf_cells(b),
+                                   TF_STATE_CELLS, b->exceptions, b->exceptions_length);
+}
+
+/* Finishes the body: slots without a name get fill. The body is the used part of each table.
+ * Refuses: 19, 17. */
+static inline tf_answer tf_build(tf_builder *b, uint32_t fill)
+{
+    return tfb_build(fill, tf_cells(b), TF_STATE_CELLS, b->names, b->names_length, b->marks, b->marks_length);
+}
+
+/* Opens a region of live code at a depth that comes from outside: a body's first, or an exception handler's.
+ * Refuses: 19, 15, 18. */
+static inline tf_answer tf_new_code_region(tf_builder *b, uint16_t depth)
+{
+    return tfb_new_code_region(depth, tf_cells(b), TF_STATE_CELLS, b->starts, b->starts_length);
+}
 
 #ifdef __cplusplus
 }

@@ -19,15 +19,18 @@ static void report(const char *what, int right)
     }
 }
 
-static void value(const char *what, tf_answer answer, int32_t expected)
+static inline void value(const char *what, tf_answer answer, int32_t expected)
 {
     report(what, tf_refusal(answer) == 0 && tf_value(answer) == expected);
 }
 
-static void refusal(const char *what, tf_answer answer, uint32_t expected)
+/* A refusal that names something, and one that names nothing. */
+static inline void naming(const char *what, tf_answer answer, uint32_t expected, uint32_t named)
 {
-    report(what, tf_refusal(answer) == expected && tf_value(answer) == 0);
+    report(what, tf_refusal(answer) == expected && tf_named(answer) == named);
 }
+
+static inline void refusal(const char *what, tf_answer answer, uint32_t expected) { naming(what, answer, expected, 0); }
 
 /* The counts, and the exit status. */
 static int verdict(const char *program)

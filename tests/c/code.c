@@ -33,9 +33,9 @@ static void nothing(const char *what, tf_answer answer)
     report(what, untouched(0));
 }
 
-static void refused(const char *what, tf_answer answer, uint32_t expected)
+static void refused(const char *what, tf_answer answer, uint32_t expected, uint32_t named)
 {
-    refusal(what, answer, expected);
+    naming(what, answer, expected, named);
     report(what, untouched(0));
 }
 
@@ -52,7 +52,7 @@ static void step(const char *what, const uint8_t *code, size_t length, size_t at
 {
     wrote(what, tf_step(code, length, at, fresh(), CELLS), expected, TF_STEP_CELLS);
     wrote(what, tf_step(code, length, at, fresh(), TF_STEP_CELLS), expected, TF_STEP_CELLS);
-    refused(what, tf_step(code, length, at, fresh(), TF_STEP_CELLS - 1), TF_FULL);
+    refused(what, tf_step(code, length, at, fresh(), TF_STEP_CELLS - 1), TF_FULL, TF_TABLE_TEXT);
 }
 
 /* The document's nine bytes. */
@@ -112,18 +112,18 @@ static void keyword_call(void)
                           (uint16_t)expected[TF_STEP_B], (uint8_t)expected[TF_STEP_C], (uint8_t)expected[TF_STEP_NAMES]),
           -5);
     for (size_t length = 2; length < 8; length++)
-        refused("a keyword call cut short", tf_step(code, length, 1, fresh(), CELLS), TF_CUT_SHORT);
+        refused("a keyword call cut short", tf_step(code, length, 1, fresh(), CELLS), TF_CUT_SHORT, 1);
 }
 
 static void damaged(void)
 {
     static const uint8_t unknown[] = {TF_OP_POP, NO_OPCODE, 255};
-    refused("131 in the code", tf_step(unknown, sizeof unknown, 1, fresh(), CELLS), TF_UNKNOWN_OPCODE);
-    refused("255 in the code", tf_step(unknown, sizeof unknown, 2, fresh(), CELLS), TF_UNKNOWN_OPCODE);
-    refused("the nine bytes cut within the jump", tf_step(nine, 3, 1, fresh(), CELLS), TF_CUT_SHORT);
-    refused("1 comes before 18", tf_step(unknown, sizeof unknown, 1, NULL, 0), TF_UNKNOWN_OPCODE);
-    refused("22 comes before 18", tf_step(nine, 3, 1, NULL, 0), TF_CUT_SHORT);
-    refused("no room", tf_step(nine, sizeof nine, 0, NULL, 0), TF_FULL);
+    refused("131 in the code", tf_step(unknown, sizeof unknown, 1, fresh(), CELLS), TF_UNKNOWN_OPCODE, 1);
+    refused("255 in the code", tf_step(unknown, sizeof unknown, 2, fresh(), CELLS), TF_UNKNOWN_OPCODE, 2);
+    refused("the nine bytes cut within the jump", tf_step(nine, 3, 1, fresh(), CELLS), TF_CUT_SHORT, 1);
+    refused("1 comes before 18", tf_step(unknown, sizeof unknown, 1, NULL, 0), TF_UNKNOWN_OPCODE, 1);
+    refused("22 comes before 18", tf_step(nine, 3, 1, NULL, 0), TF_CUT_SHORT, 1);
+    refused("no room", tf_step(nine, sizeof nine, 0, NULL, 0), TF_FULL, TF_TABLE_TEXT);
 }
 
 /* Whether so many bytes are written to the front of a buffer, all else in which stays as it was. */
@@ -133,7 +133,7 @@ static void written(const char *what, uint8_t opcode, uint8_t shape, uint16_t a,
     uint8_t out[600], wanted[600];
     memset(out, '#', sizeof out);
     memset(wanted, '#', sizeof wanted);
-    refusal(what, tf_write(out, size - 1, opcode, shape, a, b, c, names, count), TF_FULL);
+    naming(what, tf_write(out, size - 1, opcode, shape, a, b, c, names, count), TF_FULL, TF_TABLE_CODE);
     report(what, memcmp(out, wanted, sizeof wanted) == 0);
     memcpy(wanted, expected, size);
     value(what, tf_write(out, size, opcode, shape, a, b, c, names, count), (int32_t)size);
@@ -166,7 +166,7 @@ static void writing(void)
     refusal("256 in a byte", tf_write(out, sizeof out, TF_OP_LOAD_LOCAL, TF_SHAPE_U8, 256, 0, 0, NULL, 0), TF_WRONG_SHAPE);
     refusal("Pop with a name", tf_write(out, sizeof out, TF_OP_POP, TF_SHAPE_NONE, 0, 0, 0, names, 1), TF_WRONG_SHAPE);
     refusal("2 before 18", tf_write(NULL, 0, TF_OP_POP, TF_SHAPE_U8, 0, 0, 0, NULL, 0), TF_WRONG_SHAPE);
-    refusal("no room", tf_write(NULL, 0, TF_OP_POP, TF_SHAPE_NONE, 0, 0, 0, NULL, 0), TF_FULL);
+    naming("no room", tf_write(NULL, 0, TF_OP_POP, TF_SHAPE_NONE, 0, 0, 0, NULL, 0), TF_FULL, TF_TABLE_CODE);
     for (size_t i = 0; i < sizeof out; i++)
         if (out[i] != '#')
             report("a refusal writes nothing", 0);
@@ -193,8 +193,11 @@ static void depths(void)
     report("no bytes", checked("", 0, NULL, 0, depth) == 0 && depth[0] == TF_NO_DEPTH && depth[1] == 77);
     report("a start inside", tf_refusal(checked(nine, 9, inside, 2, depth)) == TF_BAD_STARTS && depth[0] == 77);
     report("an odd list", tf_refusal(checked(nine, 9, zero, 1, depth)) == TF_BAD_STARTS && depth[0] == 77);
-    report("cut short", tf_refusal(checked(nine, 3, zero, 2, depth)) == TF_CUT_SHORT && depth[0] == 77);
-    report("no opcode", tf_refusal(checked("\x05\x83", 2, zero, 2, depth)) == TF_UNKNOWN_OPCODE && depth[0] == 77);
+    naming("cut short", checked(nine, 3, zero, 2, depth), TF_CUT_SHORT, 1);
+    report("leaves the depths", depth[0] == 77);
+    naming("no opcode", checked("\x05\x83", 2, zero, 2, depth), TF_UNKNOWN_OPCODE, 1);
+    report("leaves the depths", depth[0] == 77);
+    naming("not counted either", tf_count_instructions((const uint8_t *)"\x05\x83", 2), TF_UNKNOWN_OPCODE, 1);
     report("too few depths", tf_refusal(tf_check((const uint8_t *)nine, 9, zero, 2, depth, 9)) == TF_SHORT_DEPTHS);
 }
 
@@ -211,7 +214,8 @@ static void handlers(void)
     nothing("offset 10", tf_find_exception_handler(rows, length, 10, fresh(), CELLS));
     nothing("offset 10 wants no room", tf_find_exception_handler(rows, length, 10, NULL, 0));
     nothing("no rows", tf_find_exception_handler(NULL, 0, 1, fresh(), CELLS));
-    refused("too little room", tf_find_exception_handler(rows, length, 2, fresh(), TF_ROW_CELLS - 1), TF_FULL);
+    refused("too little room", tf_find_exception_handler(rows, length, 2, fresh(), TF_ROW_CELLS - 1), TF_FULL,
+            TF_TABLE_TEXT);
     report("the handler's offset has a name", inner[TF_HANDLER_OFFSET] == 20 && outer[TF_HANDLER_KIND] == 1);
 }
 
@@ -226,7 +230,8 @@ static void locations(void)
     wrote("behind the part of a row", tf_location_for_offset(rows, length, 9, fresh(), CELLS), last, TF_ROW_CELLS);
     wrote("at the largest offset", tf_location_for_offset(rows, length, UINT32_MAX, fresh(), CELLS), last, TF_ROW_CELLS);
     nothing("above it", tf_location_for_offset(rows, length, (size_t)UINT32_MAX + 1, fresh(), CELLS));
-    refused("too little room", tf_location_for_offset(rows, length, 3, fresh(), TF_ROW_CELLS - 1), TF_FULL);
+    refused("too little room", tf_location_for_offset(rows, length, 3, fresh(), TF_ROW_CELLS - 1), TF_FULL,
+            TF_TABLE_TEXT);
 }
 
 static void constants_and_names(void)
@@ -235,13 +240,13 @@ static void constants_and_names(void)
     static const uint64_t largest[] = {UINT64_MAX}, zero[] = {0}, last[] = {4294967295u};
     wrote("constant 1", tf_constant(constants, 2, 1, fresh(), CELLS), largest, 1);
     nothing("constant 2", tf_constant(constants, 2, 2, fresh(), CELLS));
-    refused("a constant without room", tf_constant(constants, 2, 1, NULL, 0), TF_FULL);
+    refused("a constant without room", tf_constant(constants, 2, 1, NULL, 0), TF_FULL, TF_TABLE_TEXT);
     nothing("slot 0 has no name", tf_local_name(names, 4, 0, fresh(), CELLS));
     wrote("slot 1 has name 0", tf_local_name(names, 4, 1, fresh(), 1), zero, 1);
     wrote("slot 2 has the last name", tf_local_name(names, 4, 2, fresh(), CELLS), last, 1);
     nothing("slot 3 holds too large a number", tf_local_name(names, 4, 3, fresh(), CELLS));
     nothing("slot 4", tf_local_name(names, 4, 4, fresh(), CELLS));
-    refused("a name without room", tf_local_name(names, 4, 1, NULL, 0), TF_FULL);
+    refused("a name without room", tf_local_name(names, 4, 1, NULL, 0), TF_FULL, TF_TABLE_TEXT);
 }
 
 int main(void)

@@ -94,7 +94,7 @@ static void name(uint8_t opcode, const char *expected)
     size_t length = strlen(expected);
     memset(written, '#', sizeof written);
     memset(wanted, '#', sizeof wanted);
-    refusal(expected, tf_opcode_name(opcode, written, length - 1), TF_FULL);
+    naming(expected, tf_opcode_name(opcode, written, length - 1), TF_FULL, TF_TABLE_TEXT);
     report(expected, memcmp(written, wanted, sizeof wanted) == 0);
     memcpy(wanted, expected, length);
     value(expected, tf_opcode_name(opcode, written, length), (int32_t)length);
@@ -108,7 +108,7 @@ static void names(void)
     name(TF_OP_POP, "Pop");
     name(TF_OP_CALL_FUNCTION_EXTENDED, "CallFunctionExtended");
     name(TF_OP_RAISE_FROM, "RaiseFrom");
-    refusal("no room", tf_opcode_name(TF_OP_POP, NULL, 0), TF_FULL);
+    naming("no room", tf_opcode_name(TF_OP_POP, NULL, 0), TF_FULL, TF_TABLE_TEXT);
     refusal("131 has no name", tf_opcode_name(NO_OPCODE, NULL, 0), TF_UNKNOWN_OPCODE);
 }
 

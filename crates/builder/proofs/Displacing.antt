@@ -1,4 +1,4 @@
--- The 16 bits of a displacement are document 01's number: target - opcode offset - 3.
+-- The 16 bits of a displacement are R16's number: target - opcode offset - 3.
 -- Assumes nothing.
 use mathlib.Core.Path.{_≡_, refl}
 use mathlib.Core.Bool.{Bool, true, false}
@@ -34,7 +34,7 @@ module _ (o t : ℕ) (close : near o t ≡ true) where
       let b = ahead h in
       rw (e, lt-ltb (bits o t) 32768 (omega arith), b) refl
 
-  -- "Displacement = target - opcode offset - 3"
+  -- "its target less the offset of its opcode less 3"
   pub displaced : signed 65536 (bits o t) ≡ subℕ t (o + 3)
   displaced = by-side (ltb t (o + 3)) refl
 

@@ -63,6 +63,7 @@ jumpToCore core location opcode target code locations marks =
     (toPlanOf core location opcode target (length code) (length locations) marks)
     core location opcode code locations
 
+-- R39
 unfoldable pub emitJumpToOf : (builder : Builder) (opcode : ℕ) (target : JumpTarget) (code locations marks : List ℕ)
     → Outcome
 emitJumpToOf builder opcode target code locations marks =

@@ -1,4 +1,4 @@
--- Constants: document 01, refusal 9.
+-- Constants: R23, R41, refusal 9 (R27).
 -- Assumes nothing.
 use mathlib.Core.List.{List, [], _∷_}
 use Prim.Native.Nat.{ℕ, _+_}
@@ -32,7 +32,7 @@ withConstants builder constants = record {
   starts = builder .starts;
 }
 
--- 19, "65,536 or more constants already held", 18; the value at the used end, and its index
+-- 19, "65,536 or more constants are held", 18; the value at the used end, and its index (R23, R41)
 unfoldable pub addConstOf : (builder : Builder) (value : ℕ) (cells : List ℕ) → AddedKept
 addConstOf builder value cells =
     pick (countsOf builder (cellsWithin (builder .constants) (length cells)))

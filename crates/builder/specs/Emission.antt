@@ -46,7 +46,7 @@ pub record CoreOutcome : Type 0 where
 abbrev pub coreOutcome : (answer : CoreAnswer) (code locations : List ℕ) → CoreOutcome
 coreOutcome answer code locations = record { answer = answer; code = code; locations = locations }
 
--- what a plan comes to: the bytes at the used end and a location's row, or no change
+-- what a plan comes to: the bytes at the used end and a location's row, or no change (R33)
 abbrev pub commitOf : Plan → (core : Core) (location : Location) (bytes code locations : List ℕ) → CoreOutcome
 commitOf Idle core location bytes code locations = coreOutcome (C.Accepted core) code locations
 commitOf (Refuse refusal) core location bytes code locations = coreOutcome (C.Refused refusal) code locations
@@ -76,24 +76,24 @@ outcome answer code locations = record { answer = answer; code = code; locations
 abbrev pub outcomeBy : Builder → CoreOutcome → Outcome
 outcomeBy builder left = outcome (answerBy builder (left .answer)) (left .code) (left .locations)
 
--- an instruction whose operand holds a name
+-- an instruction whose operand holds a name (R33, R35)
 unfoldable pub emitNamed : (builder : Builder) (opcode name : ℕ) (operand : Operand) (names code locations : List ℕ)
     → Outcome
 emitNamed builder opcode name operand names code locations =
     outcomeBy builder (emitCore (builder .core) (builder .location) opcode name operand names code locations)
 
--- any other: document 01's 8 does not look at it
+-- any other: 8 does not look at it (R34)
 abbrev pub emitOf : (builder : Builder) (opcode : ℕ) (operand : Operand) (names code locations : List ℕ) → Outcome
 emitOf builder opcode operand names code locations = emitNamed builder opcode 0 operand names code locations
 
--- builder.rs, `emit_load_local`: "using specialized variants for common slots", 0 to 3; a byte; a word
+-- builder.rs, `emit_load_local`: "using specialized variants for common slots", 0 to 3; a byte; a word (R36)
 abbrev pub loadOp : ℕ → ℕ
 loadOp slot = pick (leb slot 3) (LoadLocal0 + slot) (pick (leb slot 255) LoadLocal LoadLocalW)
 
 abbrev pub loadOperand : ℕ → Operand
 loadOperand slot = pick (leb slot 3) O.None (pick (leb slot 255) (O.U8 slot) (O.U16 slot))
 
--- builder.rs, `emit_store_local`: "using wide variant for slots > 255"
+-- builder.rs, `emit_store_local`: "using wide variant for slots > 255" (R36)
 abbrev pub storeOp : ℕ → ℕ
 storeOp slot = pick (leb slot 255) StoreLocal StoreLocalW
 

@@ -1,4 +1,4 @@
--- Exceptions: document 01, "Lent tables" (exceptions), refusal 10.
+-- Exceptions: R22, R41, refusal 10 (R27).
 -- Assumes nothing.
 use mathlib.Core.Bool.{Bool, _&&_}
 use mathlib.Core.List.{List}
@@ -15,14 +15,14 @@ use Rattle.builder.specs.declared.Builder.{Builder}
 use Rattle.code.specs.Tables.{exceptionCells, push, room, within}
 use Rattle.builder.specs.State.{Kept, countsOf, kept, unless}
 
--- 10, "exception offset over 4,294,967,295"
+-- 10, "an exception's offset is over 4,294,967,295"
 abbrev pub offsetMax : ℕ
 offsetMax = 4294967295
 
 unfoldable pub offsetsFit : (start end handler : ℕ) → Bool
 offsetsFit start end handler = leb start offsetMax && leb end offsetMax && leb handler offsetMax
 
--- "start, end, handler, depth, exception count, kind"
+-- "start, end, handler, depth, exception count, kind" (R22)
 abbrev pub exceptionRow : (start end handler depth count : ℕ) (kind : HandlerKind) → List ℕ
 exceptionRow start end handler depth count kind =
     handlerCells
@@ -46,7 +46,7 @@ withExceptions builder exceptions = record {
   starts = builder .starts;
 }
 
--- 19, 10, 18; the row at the used end
+-- 19, 10, 18; the row at the used end (R41)
 unfoldable pub addExceptionOf : (builder : Builder) (start end handler depth count : ℕ) (kind : HandlerKind)
     (cells : List ℕ) → Kept
 addExceptionOf builder start end handler depth count kind cells =

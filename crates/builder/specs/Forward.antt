@@ -72,6 +72,7 @@ commitJump (Go after taken size) builder opcode code locations marks =
     (locationsAfter (builder .location) (core .locations) (core .code) locations)
     (push markCells (core .marks) (markRow openKind (core .code) taken) marks)
 
+-- R37
 unfoldable pub emitJumpOf : (builder : Builder) (opcode : ℕ) (code locations marks : List ℕ) → JumpOutcome
 emitJumpOf builder opcode code locations marks =
     commitJump

@@ -1,5 +1,4 @@
--- Source locations: document 01, "Lent tables" (locations), "Each live emission with a location set adds one location
--- row".
+-- Source locations: R21, R32, R33, "one location row if a location is set".
 -- Assumes nothing.
 use mathlib.Core.Bool.{Bool, true}
 use mathlib.Core.List.{List}
@@ -21,17 +20,17 @@ abbrev pub rowsAfter : Location → (rows : ℕ) → ℕ
 rowsAfter Unset rows = rows
 rowsAfter (Set range focus) rows = rows + 1
 
--- "Each live emission with a location set adds one location row"
+-- "one location row if a location is set"
 abbrev pub rowFits : Location → (rows locations : ℕ) → Bool
 rowFits Unset rows locations = true
 rowFits (Set range focus) rows locations = locationRoom rows locations
 
--- builder.rs, `current_position`: the range, or "default 0, 0"
+-- builder.rs, `current_position`: the range, or "0 and 0 before one is set" (R32)
 abbrev pub positionOf : Location → CodeRange
 positionOf Unset = record { start = 0; end = 0 }
 positionOf (Set range focus) = range
 
--- the same state with another location
+-- the same state with another location (R32)
 abbrev pub withLocation : (builder : Builder) (location : Location) → Builder
 withLocation builder location = record {
   core = builder .core;

@@ -1,5 +1,4 @@
--- Marks, and how far a jump goes: document 01, "Lent tables" (marks), "Displacement", refusals 6, 13, 14, 17 and 19,
--- and "A live `emit_jump` takes one mark, and so does a live `current_jump_target`".
+-- Marks, and how far a jump goes: R16, R24, R39, refusals 6, 13, 14, 17 and 19 (R27).
 -- Assumes nothing.
 use mathlib.Core.Bool.{_&&_, Bool, true, false, _||_}
 use mathlib.Core.List.{List, [], _∷_}
@@ -22,7 +21,7 @@ use Rattle.builder.specs.declared.marks.Mark.the-variants.{Absent, Open,
 use Rattle.code.specs.Tables.{codeWithin, jumpSize, markCells, push, room, within, wordMax}
 use Rattle.builder.specs.State.{countsOf, withCore, withMarks}
 
--- "kind 1 open label, 2 patched label, 3 target"
+-- "1 open label, 2 patched label, 3 target"
 abbrev pub openKind : ℕ
 openKind = 1
 
@@ -32,10 +31,11 @@ patchedKind = 2
 abbrev pub targetKind : ℕ
 targetKind = 3
 
--- a row's "kind ..; offset; depth; 0"
+-- a row's kind, "offset, depth, 0" (R24)
 abbrev pub markRow : (kind offset depth : ℕ) → List ℕ
 markRow kind offset depth = kind ∷ offset ∷ depth ∷ 0 ∷ []
 
+-- R24
 unfoldable pub markOf : (kind offset depth : ℕ) → Mark
 markOf kind offset depth =
     pick (eqb kind openKind) (Open offset depth)
@@ -67,8 +67,7 @@ targetMark (T.Row row) rows marks = markIn rows marks row
 unfoldable pub fits : (depth place code : ℕ) → Bool
 fits depth place code = leb depth wordMax && leb place code
 
--- 19, "for the used mark (kinds 1 to 3) that the call names, depth exceeds 65,535, or offset+3 (1, 2) or offset (3) the
--- code"
+-- 19, "its depth exceeds 65,535, or its place the code (offset and 3 for a label, offset for a target)" (R27)
 abbrev pub markSound : (code : ℕ) → Mark → Bool
 markSound code Absent = true
 markSound code (Open offset depth) = fits depth (offset + jumpSize) code
@@ -80,11 +79,11 @@ unfoldable pub markable : (core : Core) (code marks : ℕ) → Bool
 markable core code marks =
     codeWithin (core .code) code && within markCells (core .marks) marks
 
--- "Displacement = target - opcode offset - 3, in -32,768 to 32,767"
+-- "its target less the offset of its opcode less 3, from -32,768 to 32,767" (R16)
 unfoldable pub near : (offset target : ℕ) → Bool
 near offset target = leb (offset + jumpSize) (target + 32768) && leb target (offset + jumpSize + 32767)
 
--- its 16 bits, two's complement
+-- its 16 bits, two's complement (R16)
 unfoldable pub bits : (offset target : ℕ) → ℕ
 bits offset target = (target + 65536 - (offset + jumpSize)) % 65536
 
@@ -117,7 +116,7 @@ targetAt (Live here) builder marks =
     (push markCells (core .marks) (markRow targetKind (core .code) here) marks))
     (targetOutcome (G.Refused (Full Marks)) marks)
 
--- "Others, dead or live: 19, their own refusals, 18"; dead, nothing is wanted
+-- "19, their own refusals, 18"; dead, nothing is wanted (R39)
 unfoldable pub targetOf : (builder : Builder) (marks : List ℕ) → TargetOutcome
 targetOf builder marks =
     pick (countsOf builder (within markCells (builder .core .marks) (length marks)))

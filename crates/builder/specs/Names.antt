@@ -1,4 +1,4 @@
--- The names of local slots, and `build`: document 01, "Lent tables" (names), refusals 16 and 17.
+-- The names of local slots, and `build`: R23, R40, R43, refusals 16 and 17 (R27).
 -- Assumes nothing.
 use mathlib.Core.Bool.{_&&_}
 use mathlib.Core.List.{List, [], _∷_, _++_, map}
@@ -25,11 +25,11 @@ withNames builder names = record {
   starts = builder .starts;
 }
 
--- a name's cell: "0 absent, else number+1"
+-- a name's cell: "0 for absent, else the number and one" (R23)
 abbrev pub nameCell : (name : ℕ) → ℕ
 nameCell name = name + 1
 
--- 19, 16, 18; the names of slots 0, 1, ..
+-- 19, 16, 18; the names of slots 0, 1, .. (R40)
 unfoldable pub registerNamesOf : (builder : Builder) (names cells : List ℕ) → Kept
 registerNamesOf builder names cells =
     unless (countsOf builder (cellsWithin (builder .names) (length cells))) Unsound cells
@@ -45,7 +45,7 @@ extension absent name = replicate absent 0 ++ nameCell name ∷ []
 abbrev pub named : (cell name : ℕ) → ℕ
 named cell name = pick (eqb cell 0) (nameCell name) cell
 
--- 19, 18; a slot that is held, or one past them
+-- 19, 18; a slot that is held, or one past them (R40)
 unfoldable pub registerNameOf : (builder : Builder) (slot name : ℕ) (cells : List ℕ) → Kept
 registerNameOf builder slot name cells =
     unless (countsOf builder (cellsWithin (builder .names) (length cells))) Unsound cells
@@ -56,11 +56,11 @@ registerNameOf builder slot name cells =
     (Accepted (withNames builder (slot + 1)))
     (put (builder .names) (extension (slot - builder .names) name) cells))))
 
--- "the name that fills absent slots", in the used cells
+-- "a told name", in the used cells
 abbrev pub filledNames : (held name : ℕ) (cells : List ℕ) → List ℕ
 filledNames held name cells = map (λ (cell : ℕ). named cell name) (take held cells) ++ drop held cells
 
--- 19, 17
+-- 19, 17 (R43)
 unfoldable pub buildOf : (builder : Builder) (name : ℕ) (cells marks : List ℕ) → Kept
 buildOf builder name cells marks =
     unless

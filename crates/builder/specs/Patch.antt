@@ -1,4 +1,4 @@
--- The model of `patch_jump`: document 01, "`patch_jump`: 19, Dead (accepted, no change), 13, 14, 11, 6".
+-- The model of `patch_jump`: R29, R38.
 -- Assumes nothing.
 use mathlib.Core.Bool.{Bool, true, false}
 use mathlib.Core.List.{List}
@@ -26,7 +26,7 @@ abbrev pub patchGuard : Bool → Refusal → PatchPlan → PatchPlan
 patchGuard true refusal plan = plan
 patchGuard false refusal plan = Refuse refusal
 
--- 13, 14, 11, 6
+-- 13, 14, 11, 6 (R29)
 abbrev pub openPlan : (mark : Mark) (core : Core) → PatchPlan
 openPlan Absent core = Refuse NoSuchMark
 openPlan (Target offset depth) core = Refuse NoSuchMark
@@ -45,7 +45,7 @@ abbrev pub labelPlan : (label : JumpLabel) (core : Core) (marks : List ℕ) → 
 labelPlan L.Dead core marks = Idle
 labelPlan (L.Row row) core marks = markPlanOf (markIn (core .marks) marks row) core
 
--- 19 of the counts
+-- 19 of the counts (R29)
 unfoldable pub patchPlanOf : (core : Core) (label : JumpLabel) (code : ℕ) (marks : List ℕ) → PatchPlan
 patchPlanOf core label code marks =
     patchGuard (markable core code (length marks)) Unsound (labelPlan label core marks)
@@ -64,7 +64,7 @@ pub record PatchOutcome : Type 0 where
 abbrev pub patchOutcome : (answer : Answer) (code marks : List ℕ) → PatchOutcome
 patchOutcome answer code marks = record { answer = answer; code = code; marks = marks }
 
--- "A patch writes it at offset+1 and +2 and no other byte", "Patching records kind 2"
+-- "written at the opcode's offset and 1 and 2 and nowhere else, the mark becomes patched" (R38)
 abbrev pub commitPatch : PatchPlan → (builder : Builder) (label : JumpLabel) (code marks : List ℕ) → PatchOutcome
 commitPatch Idle builder label code marks = patchOutcome (Accepted builder) code marks
 commitPatch (Refuse refusal) builder label code marks = patchOutcome (Refused refusal) code marks
@@ -73,6 +73,7 @@ commitPatch (Go after word offset) builder label code marks =
     (put (offset + 1) (wordBytes word) code)
     (set marks (labelRow label * markCells) patchedKind)
 
+-- R38
 unfoldable pub patchJumpOf : (builder : Builder) (label : JumpLabel) (code marks : List ℕ) → PatchOutcome
 patchJumpOf builder label code marks =
     commitPatch (patchPlanOf (builder .core) label (length code) marks) builder label code marks

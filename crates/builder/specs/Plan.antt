@@ -1,5 +1,5 @@
--- What an emitting call decides: document 01, "Emitting calls: 19, 1, 8, dead code (accepted, nothing changes), 3,
--- taken-depth 5, 12 or 13, 11, 6, 7, 2, 4, 5, then 18 in the order code, locations, marks".
+-- What an emitting call decides: R28, "19, 1, 8, then dead code is accepted and nothing changes, then 3,
+-- taken depth 5, 12 or 13, 11, 6, 7, 2, 4, 5, and last 18: code, locations, marks".
 -- Assumes nothing.
 use mathlib.Core.Bool.{Bool, true, false, _&&_}
 use Prim.Native.Nat.{ℕ}
@@ -92,7 +92,7 @@ meetsAim Onward taken = true
 meetsAim Ahead taken = true
 meetsAim (Back target mark) taken = ofTarget mark (λ (offset depth : ℕ). eqb taken depth) true
 
--- 6, "displacement outside its range"
+-- 6, "the displacement is outside its range"
 abbrev pub nearAim : (way : Way) (at : ℕ) → Bool
 nearAim Onward at = true
 nearAim Ahead at = true
@@ -102,15 +102,15 @@ nearAim (Back target mark) at = ofTarget mark (λ (offset depth : ℕ). near at 
 abbrev pub sizeIn : Asked → ℕ
 sizeIn asked = sizeOf (operandShape (asked .operand)) (asked .names)
 
--- 18 of the code, whose limit is 1,048,576 bytes
+-- 18 of the code, whose limit is 1,048,576 bytes (R20)
 abbrev pub codeFree : Asked → Bool
 codeFree asked = codeRoom (asked .core .code) (asked .code) (sizeIn asked)
 
--- 18 of the locations: "Each live emission with a location set adds one location row"
+-- 18 of the locations: "one location row if a location is set"
 abbrev pub locationFree : Asked → Bool
 locationFree asked = rowFits (asked .location) (asked .core .locations) (asked .locations)
 
--- 18 of the marks: "A live `emit_jump` takes one mark"
+-- 18 of the marks: "an open label's mark"
 abbrev pub markFree : (way : Way) (core : Core) (marks : ℕ) → Bool
 markFree Onward core marks = true
 markFree Ahead core marks = room markCells (core .marks) marks
@@ -118,7 +118,7 @@ markFree (Back target mark) core marks = true
 
 -- what a plan holds
 
--- "Exactly six opcodes make the code dead"
+-- "Six opcodes make the code behind them dead"
 unfoldable pub behind : (opcode next : ℕ) → Depth
 behind opcode next = pick (deadMaker opcode) Dead (Live next)
 
@@ -157,7 +157,7 @@ abbrev pub arrived : After → (ℕ → Plan) → Plan
 arrived (A.Refused refusal) plan = Refuse refusal
 arrived (A.Depth depth) plan = plan depth
 
--- how every emitting call begins
+-- how every emitting call begins (R28)
 unfoldable pub enterOf : (sound : Bool) (opcode name : ℕ) (depth : Depth) → Entered
 enterOf sound opcode name depth =
     admit sound Unsound  -- 19
@@ -165,7 +165,7 @@ enterOf sound opcode name depth =
     (admit (leb name wordMax) NameTooLarge  -- 8
     (depthHere depth)))  -- dead code (accepted, nothing changes)
 
--- the whole line; an operand that counts other names than there are has another shape too
+-- the whole line; an operand that counts other names than there are has another shape too (R28)
 unfoldable pub emittingOf : Asked → Plan
 emittingOf asked =
     entered (enterOf (askSound asked) (asked .opcode) (asked .name) (asked .core .depth))  -- 19, 1, 8, dead code

@@ -1,4 +1,4 @@
--- What is recorded is found: document 01, "Each live emission with a location set adds one location row", "Lookups".
+-- What is recorded is found: R33, R44.
 -- Assumes nothing.
 use mathlib.Core.Path.{_≡_}
 use mathlib.Core.List.{List}

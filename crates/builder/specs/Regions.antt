@@ -1,5 +1,4 @@
--- Regions: document 01, "A new builder told live at d stores start (0, d), or answers 18 alone; `new_code_region`
--- stores a start".
+-- Regions: R25, R31, R42.
 -- Assumes nothing.
 use mathlib.Core.List.{List, [], _∷_}
 use Prim.Native.Nat.{ℕ, _+_}
@@ -25,7 +24,7 @@ freshAt depth starts = record {
   starts = starts;
 }
 
--- "A new builder told live at d stores start (0, d), or answers 18 alone"
+-- "dead, or live at a depth with the start (0, depth) stored; 18 where there is no room for it" (R25, R31)
 unfoldable pub newOf : (told : Depth) (starts : List ℕ) → Kept
 newOf Dead starts = kept (Accepted (freshAt Dead 0)) starts
 newOf (Live depth) starts =
@@ -52,7 +51,7 @@ regionAt Dead builder depth starts =
     (Accepted (opened builder depth (builder .starts + 1)))
     (push startCells (builder .starts) (builder .core .code ∷ depth ∷ []) starts))
 
--- "`new_code_region` stores a start"
+-- "opens live code at a told depth in dead code and stores a start" (R25, R42)
 unfoldable pub regionOf : (builder : Builder) (depth : ℕ) (starts : List ℕ) → Kept
 regionOf builder depth starts =
     unless (countsOf builder (within startCells (builder .starts) (length starts))) Unsound starts

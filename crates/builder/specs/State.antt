@@ -1,5 +1,5 @@
--- The state around a change, and the answer of a call that is lent one table: document 01, "Others, dead or live: 19,
--- their own refusals, 18".
+-- The state around a change, and the answer of a call that is lent one table: R30,
+-- "19, their own refusals, 18".
 -- Assumes nothing.
 use mathlib.Core.Bool.{_&&_, Bool, true, false}
 use mathlib.Core.List.{List}
@@ -40,7 +40,7 @@ withMarks core marks = record { code = core .code; locations = core .locations; 
 abbrev pub withDepth : (core : Core) (depth : Depth) → Core
 withDepth core depth = record { code = core .code; locations = core .locations; marks = core .marks; depth = depth }
 
--- whether the code is dead
+-- whether the code is dead (R43)
 abbrev pub deadOf : Depth → Bool
 deadOf Dead = true
 deadOf (Live depth) = false
@@ -53,10 +53,10 @@ pub record Kept : Type 0 where
 abbrev pub kept : (answer : Answer) (cells : List ℕ) → Kept
 kept answer cells = record { answer = answer; cells = cells }
 
--- go on where the test holds, else refuse and change nothing
+-- go on where the test holds, else refuse and change nothing (R30)
 abbrev pub unless : (test : Bool) (refusal : Refusal) (cells : List ℕ) → Kept → Kept
 unless test refusal cells on = pick test on (kept (Refused refusal) cells)
 
--- 19 of a call that is lent no code: "the code count 1,048,576", and its own count
+-- 19 of a call that is lent no code: "the code's count 1,048,576", and its own count (R30)
 abbrev pub countsOf : (builder : Builder) (own : Bool) → Bool
 countsOf builder own = withinLimit (builder .core .code) && own

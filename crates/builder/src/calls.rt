@@ -1,5 +1,5 @@
 // The public calls of CodeBuilder, in the order of builder.rs and with its names. Each decides before it writes, and
-// what it is told is not trusted. A call's comment says what it does, then which of document 01's refusals it can give,
+// what it is told is not trusted. A call's comment says what it does, then which refusals (R27) it can give,
 // in their order. "Then, live," is where dead code is accepted and nothing changes; 18 names the first table without
 // room, of code, locations, marks. The modules behind hold what the calls share, each what its name says.
 ghost use Prim.Native.Nat.{_%_};

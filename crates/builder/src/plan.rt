@@ -1,4 +1,4 @@
-// Deciding an emission, on numbers alone, in the order of document 01's line "Emitting calls".
+// Deciding an emission, on numbers alone, in the order of R28.
 ghost use Prim.Native.Nat.{_≤_};
 ghost use Rattle.code.specs.Tables.{codeLimit, markCells, within};
 ghost use Rattle.builder.specs.Locations.{rowFits};

@@ -1,4 +1,4 @@
--- Cells of depths: document 01, "65,536 in every other cell".
+-- Cells of depths: "65,536 where there is no depth" (R50).
 -- Assumes nothing.
 use mathlib.Core.List.{List, [], _∷_}
 use mathlib.Core.Option.{Option, some, none}

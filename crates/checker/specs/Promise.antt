@@ -1,4 +1,4 @@
--- What a check promises: document 01, "The depth checker". `last` is the last opcode of the table, s the code, st the
+-- What a check promises: R47 to R53. `last` is the last opcode of the table, s the code, st the
 -- starts, d the depth slice before and d′ after, r the answer.
 -- Assumes nothing.
 use mathlib.Core.Path.{_≡_}
@@ -39,8 +39,8 @@ Astray last s st q = (q ≡ BadStarts) × (Listed last s st → ⊥)
 abbrev pub Unsolved : ℕ → List ℕ → List ℕ → Refusal → Type 0
 Unsolved last s st q = (q ≡ NoDepths) × Impossible last s st
 
--- "The slice then holds the smallest assignment, 65,536 in every other cell of the first code+1"; each depth is derived, and k
--- instructions have one
+-- "The first code+1 cells then hold the smallest one, .. and 65,536 where there is no depth" (R50); each depth is
+-- derived, and k instructions have one
 pub record Solution (last : ℕ) (s st c : List ℕ) (k : ℕ) : Type 0 where
   pub size : length c ≡ suc (length s)
   pub smallest : Smallest last s st (depthIn c)
@@ -48,15 +48,15 @@ pub record Solution (last : ℕ) (s st c : List ℕ) (k : ℕ) : Type 0 where
   pub derived : (o d : ℕ) → depthIn c o ≡ some d → Derived last s st o d
   pub count : Counts last s (depthIn c) k
 
--- the first code+1 cells became c: "Later cells never change"
+-- the first code+1 cells became c: "later cells never change" (R52)
 abbrev pub Became : List ℕ → List ℕ → List ℕ → List ℕ → Type 0
 Became s d d′ c = d′ ≡ c ++ drop (suc (length s)) d
 
--- refused with q, and "the slice untouched"
+-- refused with q, and "leave the slice as it was" (R52)
 abbrev pub Refuses : List ℕ → List ℕ → Checked → Refusal → Type 0
 Refuses d d′ r q = (r ≡ Refused q) × (d′ ≡ d)
 
--- "On 23 those cells all hold 65,536"
+-- "On 23 those cells all hold 65,536" (R52)
 abbrev pub Blanks : List ℕ → List ℕ → List ℕ → Checked → Refusal → Type 0
 Blanks s d d′ r q = (r ≡ Refused q) × Became s d d′ (replicate (suc (length s)) noDepth)
 
@@ -73,7 +73,7 @@ pub data Unless (P A : Refusal → Type 0) (B : Type 0) : Type 0 where
   stops : (q : Refusal) → P q → A q → Unless P A B
   passes : ((q : Refusal) → P q → ⊥) → B → Unless P A B
 
--- "Order: 10, 21, 1 or 22 at the lowest offset, 20, 23", else accepted
+-- "10, 21, 1 or 22 at the lowest offset, 20, 23", else accepted (R47)
 unfoldable pub Promise : ℕ → List ℕ → List ℕ → List ℕ → List ℕ → Checked → Type 0
 Promise last s st d d′ r =
     Unless (TooLong s) (Refuses d d′ r)
@@ -87,11 +87,11 @@ Promise last s st d d′ r =
 unfoldable pub builtSound : Builder → ℕ → ℕ → Bool
 builtSound b cl sl = codeWithin (b .core .code) cl && within startCells (b .starts) sl
 
--- 19, "a count exceeds its lent table, the code count 1,048,576"
+-- 19, "a count exceeds its lent table, the code's count 1,048,576"
 abbrev pub Miscounted : Builder → List ℕ → List ℕ → Refusal → Type 0
 Miscounted b s st q = (q ≡ Unsound) × (builtSound b (length s) (length st) ≡ false)
 
--- the check of a builder's code and starts: 19, then the promise above of the used parts
+-- the check of a builder's code and starts: 19, then the promise above of the used parts (R53)
 unfoldable pub BuiltPromise : Builder → List ℕ → List ℕ → List ℕ → List ℕ → Checked → Type 0
 BuiltPromise b s st d d′ r =
     Unless (Miscounted b s st) (Refuses d d′ r)

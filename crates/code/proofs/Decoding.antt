@@ -39,7 +39,7 @@ pub below-shape : (last k : ℕ) → k ≤ last → shapeUpTo last k ≡ shapeOf
 unfolding shapeUpTo
 below-shape last k h = rw (le-leb k last h)
 
--- document 01's own table has every opcode that has a shape
+-- today's own table has every opcode that has a shape
 same-choice : (b : Bool) (p : Shaped) (r : Refusal)
     → pick b (pick b p (P.Refused r)) (P.Refused r) ≡ pick b p (P.Refused r)
 same-choice true p r = refl

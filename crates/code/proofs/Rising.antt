@@ -1,5 +1,5 @@
--- On offsets in rising order the location lookup answers the last row whose offset is not greater, as the Rust's binary search does: document 01,
--- "Equality with the Rust is over offsets in rising order".
+-- On offsets in rising order the location lookup answers the last row whose offset is not greater, as the Rust's binary search
+-- does: equality with the Rust (R58) is over offsets in rising order.
 -- Assumes nothing.
 use Prim.Native.Nat.{ℕ, zero, suc, _≤_, _<_}
 use native.Mathlib.Omega.{arith}

@@ -1,4 +1,4 @@
--- Numbers as bytes: document 01, "u16 little-endian", "little-endian two's complement".
+-- Numbers as bytes: "A u16 is little-endian; signed numbers are two's complement" (R13).
 -- Assumes nothing.
 use mathlib.Core.List.{List, [], _∷_, _++_}
 use Prim.Native.Nat.{ℕ, suc, _+_, _-_, _*_, _/_, _%_}

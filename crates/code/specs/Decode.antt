@@ -1,4 +1,4 @@
--- The instruction at the front of some bytes: document 01, "Bytes and depths", and its second module, the decoder.
+-- The instruction at the front of some bytes: R13 to R15.
 -- The table of opcodes is a parameter, told by its last opcode, `last`.
 -- Assumes nothing.
 use mathlib.Core.List.{List, [], _∷_}
@@ -19,7 +19,7 @@ use Rattle.code.specs.declared.Step.{Step}
 use Rattle.code.specs.declared.Step.the-variants.{Instr, End, Refused}
 use Rattle.code.specs.Bytes.{wordAt, signed}
 
--- "Operands follow the opcode in shape order": the operand in the bytes of an instruction, whose first is the opcode
+-- "its opcode, then its operands in shape order": the operand in the bytes of an instruction, whose first is the opcode
 unfoldable pub operandIn : Shape → List ℕ → Operand
 operandIn S.None u = O.None
 operandIn S.U8 u = O.U8 (getD u 1 0)
@@ -53,13 +53,13 @@ namesIn (O.U16U16U8 a b c) = 0
 abbrev pub sizeIn : Shape → List ℕ → ℕ
 sizeIn s u = sizeOf s (namesIn (operandIn s u))
 
--- an instruction of a shape at the front of u, the code from an offset on; 22, "instruction cut short", where its size
+-- an instruction of a shape at the front of u, the code from an offset on; 22, "an instruction is cut short", where its size
 -- exceeds what is there
 unfoldable pub stepIn : ℕ → Shape → List ℕ → Step
 stepIn at s u =
     pick (leb (sizeIn s u) (length u)) (Instr (getD u 0 0) (operandIn s u) (sizeIn s u)) (Refused (CutShort at))
 
--- 1, "if read, names its offset"
+-- 1, "if read, with its offset"
 abbrev pub whole : ℕ → Shaped → List ℕ → Step
 whole at (P.Is s) u = stepIn at s u
 whole at (P.Refused r) u = Refused (UnknownOpcodeAt at)
@@ -68,7 +68,7 @@ whole at (P.Refused r) u = Refused (UnknownOpcodeAt at)
 unfoldable pub shapeUpTo : ℕ → ℕ → Shaped
 shapeUpTo last k = pick (knownUpTo last k) (shapeOf k) (P.Refused UnknownOpcode)
 
--- the instruction at the front of u, the code from an offset on; the offset only names a fault's place
+-- the instruction at the front of u, the code from an offset on; the offset only names a fault's place (R14)
 unfoldable pub decode : ℕ → ℕ → List ℕ → Step
 decode last at [] = End
 decode last at (k ∷ u) = whole at (shapeUpTo last k) (k ∷ u)
@@ -79,6 +79,6 @@ namesBy (Instr k o size) u = take (2 * namesIn o) (drop (size - 2 * namesIn o) u
 namesBy End u = []
 namesBy (Refused r) u = []
 
--- "empty on a fault or without names"
+-- "empty on a fault or without names" (R15)
 unfoldable pub namesAt : ℕ → List ℕ → List ℕ
 namesAt last u = namesBy (decode last 0 u) u

@@ -1,4 +1,4 @@
--- Depths of the code: document 01, "The depth checker". Instruction starts, assignments of depths, the smallest one, and the depths
+-- Depths of the code: R48 to R51. Instruction starts, assignments of depths, the smallest one, and the depths
 -- that a path from a start leads to. Here `last` is the last opcode of the table, s the code, st the lent starts, and an
 -- assignment gives an offset a depth or none.
 -- Assumes nothing.
@@ -22,7 +22,7 @@ use Rattle.code.specs.Flow.{flowOf}
 pub record Stands (last : ℕ) (s : List ℕ) (o : ℕ) (f : Flow) : Type 0 where
   pub is : flowOf last o (drop o s) ≡ F.Op f
 
--- "instruction starts and the end": reading from 0 on comes to o
+-- "the instructions' starts and the end": reading from 0 on comes to o (R48)
 pub data Place (last : ℕ) (s : List ℕ) : ℕ → Type 0 where
   first : Place last s 0
   next : {o q : ℕ} {f : Flow} → Place last s o → Stands last s o f → o + f .size ≡ q → Place last s q
@@ -44,13 +44,13 @@ pub record Begins (st : List ℕ) (o d : ℕ) : Type 0 where
 abbrev pub Leads : ℕ → Change → ℕ → Type 0
 Leads d c e = landing lowFalling d (E.By (c .up) (c .down)) ≡ Depth e
 
--- "the fall-through depth": in range also where the instruction falls nowhere; where it falls, the next place has that depth
+-- the fall-through depth: in range also where the instruction falls nowhere; where it falls, the next place has that depth
 pub record Falls (a : ℕ → Option ℕ) (f : Flow) (o d : ℕ) : Type 0 where
   pub depth : ℕ
   pub leads : Leads d (f .net) depth
   pub has : f .falls ≡ true → a (o + f .size) ≡ some depth
 
--- "the taken depth": in range, and the place that the jump goes to has it
+-- the taken depth: in range, and the place that the jump goes to has it
 pub record Jumps (a : ℕ → Option ℕ) (f : Flow) (d : ℕ) : Type 0 where
   pub target : ℕ
   pub depth : ℕ
@@ -63,14 +63,14 @@ pub record Kept (a : ℕ → Option ℕ) (f : Flow) (o d : ℕ) : Type 0 where
   pub falls : Falls a f o d
   pub jumps : (f .goal ≡ Nowhere → ⊥) → Jumps a f d
 
--- "Assignments give instruction starts and the end at most one depth each, 0 to 65,535; each start has its depth; for every instruction
--- given a depth .."
+-- "An assignment gives places at most one depth each, 0 to 65,535. Each start has its depth. For every instruction
+-- with a depth, .." (R49)
 pub record Assigns (last : ℕ) (s st : List ℕ) (a : ℕ → Option ℕ) : Type 0 where
   pub places : (o d : ℕ) → a o ≡ some d → Place last s o × (d ≤ deepest)
   pub starts : (o d : ℕ) → Begins st o d → a o ≡ some d
   pub kept : (o d : ℕ) (f : Flow) → a o ≡ some d → Stands last s o f → Kept a f o d
 
--- "the smallest assignment (part of every other)"
+-- "the smallest one, which is part of every other" (R50)
 pub record Smallest (last : ℕ) (s st : List ℕ) (a : ℕ → Option ℕ) : Type 0 where
   pub assigns : Assigns last s st a
   pub least : (b : ℕ → Option ℕ) → Assigns last s st b → (o d : ℕ) → a o ≡ some d → b o ≡ some d
@@ -92,7 +92,7 @@ abbrev pub Rising : ℕ → List ℕ → Type 0
 Rising n [] = Unit {0}
 Rising n (x ∷ xs) = (n ≤ x) × Rising (suc x) xs
 
--- "counts the instructions that have a depth": the instruction starts with a depth, each once, are k
+-- "counts the instructions that have a depth": the instruction starts with a depth, each once, are k (R51)
 pub record Counts (last : ℕ) (s : List ℕ) (a : ℕ → Option ℕ) (k : ℕ) : Type 0 where
   pub starts : List ℕ
   pub rising : Rising 0 starts

@@ -1,4 +1,4 @@
--- The bytes of an instruction, and what its writer does: document 01, "Bytes and depths", refusals 1, 2, 7 and 18.
+-- The bytes of an instruction, and what its writer does: R13, R17.
 -- Assumes nothing.
 use mathlib.Core.Path.{_≡_}
 use mathlib.Core.Bool.{Bool}
@@ -21,7 +21,7 @@ use Rattle.code.specs.declared.Written.the-variants.{Size, Refused}
 use Rattle.code.specs.Bytes.{wordBytes, namesBytes, unsigned, front}
 use Rattle.code.specs.Decode.{namesIn}
 
--- an operand's bytes in shape order, but for keyword names
+-- an operand's bytes in shape order, but for keyword names (R13)
 abbrev pub operandBytes : Operand → List ℕ
 operandBytes O.None = []
 operandBytes (O.U8 a) = a ∷ []
@@ -36,7 +36,7 @@ operandBytes (O.CallKw positional names) = positional ∷ names ∷ []
 operandBytes (O.CallAttrKw attribute positional names) = wordBytes attribute ++ positional ∷ names ∷ []
 operandBytes (O.U16U16U8 a b c) = wordBytes a ++ wordBytes b ++ c ∷ []
 
--- "Operands follow the opcode", and keyword names stand last
+-- "its opcode, then its operands in shape order, then the keyword names" (R13)
 unfoldable pub encode : ℕ → Operand → List ℕ → List ℕ
 encode k o names = k ∷ operandBytes o ++ namesBytes names
 
@@ -75,7 +75,7 @@ writtenBy (P.Is s) o n room =
     (unless (leb (sizeOf s n) room) (Full Code)
     (Size (sizeOf s n)))))
 
--- the writer's answer: 1 first
+-- the writer's answer: 1 first (R17)
 unfoldable pub writtenOf : ℕ → Operand → ℕ → ℕ → Written
 writtenOf k o n room = writtenBy (shapeOf k) o n room
 
@@ -84,7 +84,7 @@ abbrev pub filled : Written → List ℕ → List ℕ → List ℕ
 filled (Size z) bytes out = front bytes out
 filled (Refused r) bytes out = out
 
--- the writer's answer, and every cell that it was lent
+-- the writer's answer, and every cell that it was lent (R17)
 pub record Writes (k : ℕ) (o : Operand) (names out : List ℕ) (answer : Written) (out′ : List ℕ) : Type 0 where
   pub answers : answer ≡ writtenOf k o (length names) (length out)
   pub cells : out′ ≡ filled (writtenOf k o (length names) (length out)) (encode k o names) out

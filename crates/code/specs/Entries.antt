@@ -1,5 +1,5 @@
 -- The records of the tables, and the handler lookup over a list of them: code.rs, `ExceptionEntry`, `find_exception_handler`;
--- document 01, "Lookups" ("also over a lent slice of `ExceptionEntry` records").
+-- "and over a lent slice of records" (R45).
 -- Assumes nothing.
 use Prim.Native.Nat.{ℕ, _+_}
 use mathlib.Core.Bool.{Bool, true, false}
@@ -24,12 +24,12 @@ abbrev pub pushesException : HandlerKind → Bool
 pushesException Consuming = true
 pushesException Cleanup = false
 
--- the first entry of a list that contains an offset, with its number; the entries are numbered from i
+-- the first entry of a list that contains an offset, with its number; the entries are numbered from i (R45)
 unfoldable pub findFrom : List ExceptionEntry → ℕ → ℕ → Found
 findFrom [] x i = Absent
 findFrom (e ∷ es) x i = pick (contains e x) (Row i e) (findFrom es x (i + 1))
 
--- "kind 0 Consuming, 1 Cleanup"
+-- "0 Consuming, 1 Cleanup"
 abbrev pub kindNumber : HandlerKind → ℕ
 kindNumber Consuming = 0
 kindNumber Cleanup = 1

@@ -1,4 +1,4 @@
--- How the instruction at an offset moves on: document 01, "Jumps, falling through / taken", "Exactly six opcodes make the code dead".
+-- How the instruction at an offset moves on: R9, R10, R19.
 -- Assumes nothing.
 use mathlib.Core.Bool.{not}
 use mathlib.Core.List.{List}
@@ -57,12 +57,12 @@ flowBy next end k o size = record {
   taken = changeOf (takenOf k);
 }
 
--- "Displacement = target - opcode offset - 3"
+-- "its target less the offset of its opcode less 3"
 abbrev pub flowingBy : ℕ → ℕ → Step → Flowing
 flowingBy at end (Instr k o size) = F.Op (flowBy (at + 3) end k o size)
 flowingBy at end End = F.End
 flowingBy at end (Refused r) = F.Refused r
 
--- the same of u, the code from an offset on, under a table that ends with the opcode `last`
+-- the same of u, the code from an offset on, under a table that ends with the opcode `last` (R19)
 unfoldable pub flowOf : ℕ → ℕ → List ℕ → Flowing
 flowOf last at u = flowingBy at (at + length u) (decode last at u)

@@ -1,5 +1,5 @@
--- The location table: its row as numbers and as cells, and all that is done with the table: document 01, "Lent tables"
--- (locations). Who records or looks up locations knows them by these definitions alone.
+-- The location table: its row as numbers and as cells, and all that is done with the table: R21. Who records or looks
+-- up locations knows them by these definitions alone.
 -- Assumes nothing.
 use mathlib.Core.Bool.{Bool}
 use mathlib.Core.List.{List, [], _∷_}
@@ -11,7 +11,7 @@ use Rattle.code.specs.declared.Focus.{Focus}
 use Rattle.code.specs.declared.Focus.the-variants.{Absent, Present}
 use Rattle.code.specs.declared.LocationRow.{LocationRow}
 
--- "focus present 0/1, focus start, end; the last two 0 without focus"
+-- "focus present 0 or 1, focus start and end, the last two 0 without focus"
 abbrev pub focused : Focus → ℕ
 focused Absent = 0
 focused (Present range) = 1
@@ -24,7 +24,7 @@ abbrev pub focusEnd : Focus → ℕ
 focusEnd Absent = 0
 focusEnd (Present range) = range .end
 
--- the row of a location at an offset
+-- the row of a location at an offset (R21)
 abbrev pub locationAt : (offset : ℕ) (range : CodeRange) (focus : Focus) → LocationRow
 locationAt offset range focus =
     record {
@@ -36,7 +36,7 @@ locationAt offset range focus =
       «focus_end» = focusEnd focus;
     }
 
--- a row as cells: "offset, range start, end, focus present 0/1, focus start, end"
+-- a row as cells: "offset, range start and end, focus present 0 or 1, focus start and end" (R21)
 abbrev pub locationNumbers : LocationRow → List ℕ
 locationNumbers row =
     row .offset ∷ row .start ∷ row .end ∷ row .«focus_present» ∷ row .«focus_start» ∷ row .«focus_end» ∷ []
@@ -65,7 +65,7 @@ locationsWithin rows cells = within locationCells rows cells
 abbrev pub locationRoom : (rows cells : ℕ) → Bool
 locationRoom rows cells = room locationCells rows cells
 
--- "Each lookup is lent just the used rows"
+-- "Each is lent just the used rows"
 abbrev pub usedLocations : (rows : ℕ) (locations : List ℕ) → List ℕ
 usedLocations rows locations = used locationCells rows locations
 

@@ -1,4 +1,4 @@
--- What the lookups over lent tables answer: document 01, "Lookups"; code.rs, `impl Code`.
+-- What the lookups over lent tables answer: R44 to R46; code.rs, `impl Code`.
 -- Assumes nothing.
 use mathlib.Core.Path.{_≡_}
 use Prim.Native.Nat.{ℕ, zero, suc, _+_, _-_, _≤_, _<_}
@@ -39,6 +39,7 @@ abbrev pub largestU32 : ℕ
 largestU32 = 4294967295
 
 -- Location: "the row before the first row whose offset is greater, or the last row if none is"; none if "the offset exceeds u32"
+-- (R44)
 unfoldable pub locationOf : List ℕ → ℕ → Located
 locationOf cells x = pick (ltb largestU32 x) L.Absent (rowBefore cells (firstGreater cells x))
 
@@ -74,25 +75,25 @@ coversOf start end x = leb start x && ltb x end
 abbrev pub covering : List ℕ → ℕ → ℕ → Bool
 covering cells x i = coversOf (handlerRow cells i .start) (handlerRow cells i .end) x
 
--- "the first row in insertion order with start <= offset < end", or the number of rows
+-- "the first row, in the order of insertion, with start <= offset < end", or the number of rows
 unfoldable pub firstCovering : List ℕ → ℕ → ℕ
 firstCovering cells x = first (covering cells x) (rowCount exceptionCells cells)
 
--- Handler: that row
+-- Handler: that row (R45)
 unfoldable pub handlerOf : List ℕ → ℕ → Handled
 handlerOf cells x =
     pick (ltb (firstCovering cells x) (rowCount exceptionCells cells))
     (H.Row (firstCovering cells x) (handlerRow cells (firstCovering cells x)))
     H.Absent
 
--- "A constant index at or past the count answers Absent"
+-- "A constant past the count is Absent" (R46)
 unfoldable pub constantOf : List ℕ → ℕ → Constant
 constantOf cells i = pick (ltb i (length cells)) (C.Value (getD cells i 0)) C.Absent
 
--- "names (u64: 0 absent, else number+1)"; a cell "over 4,294,967,296" is absent too
+-- "0 for absent, else the number and one"; a cell "over 4,294,967,296" is absent too
 abbrev pub nameIn : ℕ → LocalName
 nameIn c = pick (eqb c 0) N.Absent (pick (leb c 4294967296) (N.Name (c - 1)) N.Absent)
 
--- "Local slots past the table, or whose cell is 0 or over 4,294,967,296, answer Absent"
+-- "A slot past the table, or whose cell is 0 or over 4,294,967,296, is Absent" (R46)
 unfoldable pub localNameOf : List ℕ → ℕ → LocalName
 localNameOf cells slot = pick (ltb slot (length cells)) (nameIn (getD cells slot 0)) N.Absent

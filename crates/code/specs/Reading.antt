@@ -1,4 +1,4 @@
--- A code read from its start, one instruction behind the other, to its end or its first fault: document 01, the decoder.
+-- A code read from its start, one instruction behind the other, to its end or its first fault: R18.
 -- The table of opcodes is told by its last opcode, `last`.
 -- Assumes nothing.
 use mathlib.Core.List.{List}
@@ -26,7 +26,7 @@ unfoldable pub countFrom : ℕ → ℕ → ℕ → List ℕ → Count
 countFrom last zero at u = Whole 0
 countFrom last (suc fuel) at u = let rest = countFrom last fuel in counted rest at u (decode last at u)
 
--- the instructions of a code; an instruction has a byte at least, so that is all of them
+-- the instructions of a code; an instruction has a byte at least, so that is all of them (R18)
 unfoldable pub countOf : ℕ → List ℕ → Count
 countOf last code = countFrom last (suc (length code)) 0 code
 

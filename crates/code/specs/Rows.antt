@@ -1,4 +1,5 @@
--- Lent tables as rows of w cells: document 01, "Lent tables" ("six a row", "four a row") and "Lookups" ("a trailing part row is skipped").
+-- Lent tables as rows of w cells: "six numbers a row", "four numbers a row" (R21 to R25), "a part row
+-- behind them is skipped" (R44 to R46).
 -- Assumes nothing.
 use Prim.Native.Nat.{ℕ, zero, suc, _+_, _*_, _/_}
 use mathlib.Core.Bool.{Bool}

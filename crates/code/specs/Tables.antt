@@ -1,5 +1,5 @@
--- The lent tables: limits, widths, what is used, what is within a table, and what a store changes: document 01, "Lent
--- tables", refusals 18 and 19.
+-- The lent tables: limits, widths, what is used, what is within a table, and what a store changes: R20 to
+-- R26, refusals 18 and 19 (R27).
 -- Assumes nothing.
 use mathlib.Core.Bool.{Bool, _&&_}
 use mathlib.Core.List.{List, _++_}
@@ -10,7 +10,7 @@ use Rattle.op.specs.Depths.{deepest}
 
 -- limits
 
--- "Code (u8, at most its first 1,048,576 bytes used)"
+-- "at most the first 1,048,576 are used" (R20)
 abbrev pub codeLimit : ℕ
 codeLimit = 1048576
 
@@ -18,29 +18,29 @@ codeLimit = 1048576
 abbrev pub wordMax : ℕ
 wordMax = deepest
 
--- "65,536 in every other cell": what a depth slice holds where there is no depth
+-- "65,536 where there is no depth": what a depth slice holds where there is no depth
 abbrev pub noDepth : ℕ
 noDepth = 65536
 
 -- widths
 
--- "locations (u32, six a row ..)"
+-- "Locations: six numbers a row"
 abbrev pub locationCells : ℕ
 locationCells = 6
 
--- "exceptions (u32, six a row ..)"
+-- "Exceptions: six numbers a row"
 abbrev pub exceptionCells : ℕ
 exceptionCells = 6
 
--- "marks (u32, four a row ..)"
+-- "Marks: four numbers a row"
 abbrev pub markCells : ℕ
 markCells = 4
 
--- "starts (u32: offset, depth)"
+-- "Starts: two numbers a row"
 abbrev pub startCells : ℕ
 startCells = 2
 
--- "Instruction sizes: .. Offset .. 3": the bytes of a jump
+-- "U16, Offset, U8U8 3": the bytes of a jump
 abbrev pub jumpSize : ℕ
 jumpSize = 3
 
@@ -54,7 +54,7 @@ within width rows cells = leb rows (cells / width)
 abbrev pub cellsWithin : (used cells : ℕ) → Bool
 cellsWithin used cells = leb used cells
 
--- 19, "the code count 1,048,576"
+-- 19, "the code's count 1,048,576"
 abbrev pub withinLimit : (bytes : ℕ) → Bool
 withinLimit bytes = cellsWithin bytes codeLimit
 
@@ -62,7 +62,7 @@ withinLimit bytes = cellsWithin bytes codeLimit
 abbrev pub codeWithin : (bytes cells : ℕ) → Bool
 codeWithin bytes cells = cellsWithin bytes cells && withinLimit bytes
 
--- 18, "more rows .. wanted than are left": there is room for one row more
+-- 18, "no room": there is room for one row more
 abbrev pub room : (width rows cells : ℕ) → Bool
 room width rows cells = ltb rows (cells / width)
 
@@ -80,7 +80,7 @@ codeRoom bytes cells size = leb size (cells - bytes) && leb size (codeLimit - by
 abbrev pub used : (width rows : ℕ) (table : List ℕ) → List ℕ
 used width rows table = take (rows * width) table
 
--- a table with new cells from a place on, and nothing else changed
+-- a table with new cells from a place on, and nothing else changed (R26)
 unfoldable pub put : (at : ℕ) (new table : List ℕ) → List ℕ
 put at new table = take at table ++ new ++ drop (at + length new) table
 

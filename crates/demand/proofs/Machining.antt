@@ -1,4 +1,4 @@
--- The laws of document 01's instruction set, from the laws of `op` and `code`.
+-- The laws of the rules' instruction set, from the laws of `op` and `code`.
 -- Assumes nothing.
 use mathlib.Core.Path.{_≡_, refl}
 use mathlib.Core.Bool.{Bool, true, false}
@@ -101,7 +101,7 @@ dec-under last i l f r =
     let n = names-encode last (i .opcode) (i .operand) (i .names) r l f in
     rw (d, n, words-names (i .names))
 
--- document 01's own has the opcode of all that is well formed
+-- today's own has the opcode of all that is well formed
 pub formed-known : {k : ℕ} {o : Operand} {ns : List ℕ} → Formed k o ns → k ≤ lastOpcode
 formed-known {k} {o} f = shape-known k (operandShape o) (f .shape)
 

@@ -32,7 +32,7 @@ unfoldable pub tab : {A : Type 0} → ℕ → (ℕ → A) → List A
 tab zero f = []
 tab (suc n) f = tab n f ++ (f n ∷ [])
 
--- "starts (u32: offset, depth)": row i
+-- "Starts: two numbers a row": row i
 abbrev pub startAt : List ℕ → ℕ → ℕ × ℕ
 startAt starts i = (getD starts (i * startCells) 0, getD starts (i * startCells + 1) 0)
 

@@ -1,7 +1,7 @@
--- Demand 3. "Take any calls on a fresh builder, refusals among them, state and tables handed on unaltered, build accepted at the end.
--- Reading the finished bytes gives exactly the instructions accepted while live, in order, each jump with its final displacement; and
--- the depths derived from those bytes and the region starts alone are the builder's: one at each instruction and at a live end, none at a
--- dead end."
+-- The third demand (R59): "Any calls on a fresh builder, refusals among them, state and tables handed on unaltered,
+-- `build` accepted at the end: reading the finished bytes gives exactly the instructions accepted while live, in order,
+-- each jump with its final displacement; and the depths derived from those bytes and the region starts alone are the
+-- builder's: one at each instruction and at a live end, none at a dead end."
 -- Assumes nothing.
 use mathlib.Core.Path.{_≡_}
 use mathlib.Core.List.{List, [], _∷_, List·Memᴰ}
@@ -63,7 +63,7 @@ cells (x ∷ l) = x .0 ∷ x .1 ∷ cells l
 abbrev pub depths : World → History → ℕ → Option ℕ
 depths w h o = depthAt isa (h .rows) (length (finished w)) (w .state .core .depth) o
 
--- a depth's cell: "65,536 in every other cell"
+-- a depth's cell: "65,536 where there is no depth"
 abbrev pub cellOf : Option ℕ → ℕ
 cellOf none = noDepth
 cellOf (some d) = d
@@ -77,7 +77,7 @@ Accepts w h r checked =
 pub record Demand (w w′ : World) (h : History) : Type 0 where
   -- `build` leaves the state, the code and the starts as they were
   pub unchanged : (w′ .state ≡ w .state) × (w′ .code ≡ w .code) × (w′ .starts ≡ w .starts)
-  -- "Reading the finished bytes gives exactly the instructions accepted while live, in order, each jump with its final displacement"
+  -- "reading the finished bytes gives exactly the instructions accepted while live, in order, each jump with its final displacement"
   pub reads : reading isa (finished w′) ≡ some (program isa (h .rows))
   -- every jump has its place: none waits for its label
   pub settled : (r : Row isa) → List·Memᴰ r (h .rows) → (k l : ℕ) → r .what ≡ leap k (waits l) → ⊥
@@ -97,7 +97,7 @@ pub record Demand (w w′ : World) (h : History) : Type 0 where
       → check-built-says κs (w′ .state, (code .slice, (starts .slice, (entry, tt)))) r (w′ .state, (code .slice, (starts .slice, (exit, tt))))
       → length (finished w′) < length (entry .now) → Accepts w′ h r (exit .now)
 
--- the demand: of every fresh builder, all calls taken from there, and a `build` that is accepted
+-- the demand: of every fresh builder, all calls taken from there, and a `build` that is accepted (R59)
 abbrev pub Demanded : Type 0
 Demanded =
     (told : Depth) (w : World) → Fresh told w → (x : Run) → Taken (begun told w) x

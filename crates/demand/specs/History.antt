@@ -46,7 +46,7 @@ module _ (I : Isa) where
   size (one p) = length (I .bytes p)
   size (leap j g) = jumpSize
 
-  -- the instruction that is to be read: "Displacement = target - opcode offset - 3"; a jump that still waits has 0
+  -- the instruction that is to be read: "its target less the offset of its opcode less 3"; a jump that still waits has 0
   abbrev pub final : ℕ → What I → I .Ins
   final o (one p) = I .plain p
   final o (leap j (waits l)) = I .jump j (pos 0)

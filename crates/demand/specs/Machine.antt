@@ -1,4 +1,4 @@
--- The instruction set of document 01: bytes and decoding are those of `code`, shapes, effects and dead-makers those of
+-- The instruction set of the rules (R1 to R19): bytes and decoding are those of `code`, shapes, effects and dead-makers those of
 -- `op`. Its table of opcodes is a parameter, told by its last opcode.
 -- Assumes nothing.
 use mathlib.Core.List.{List, []}
@@ -57,6 +57,6 @@ isaUpTo last = record {
   dec = λ u. stepBy last u (decode last 0 u);
 }
 
--- the instruction set of document 01's own table
+-- the instruction set of today's own table
 abbrev pub isa : Isa
 isa = isaUpTo lastOpcode

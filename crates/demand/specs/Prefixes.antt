@@ -1,4 +1,5 @@
--- "The bytes of no instruction are a proper beginning of another's, so two different lists of instructions never give the same code."
+-- "No instruction's bytes are a proper beginning of another's, so two different lists of instructions never give the
+-- same code" (R60).
 -- Assumes nothing.
 use mathlib.Core.Path.{_≡_}
 use mathlib.Core.List.{List, [], _∷_, _++_, List·Memᴰ}
@@ -18,9 +19,11 @@ allBytes (i ∷ is) = isa .bytes i ++ allBytes is
 abbrev pub AllFormed : List Instruction → Type 0
 AllFormed is = (i : Instruction) → List·Memᴰ i is → WellFormed i
 
+-- R60
 abbrev pub PrefixFree : Type 0
 PrefixFree =
     (i j : Instruction) (rest : List ℕ) → WellFormed i → WellFormed j → isa .bytes i ++ rest ≡ isa .bytes j → (i ≡ j) × (rest ≡ [])
 
+-- R60
 abbrev pub OneList : Type 0
 OneList = (is js : List Instruction) → AllFormed is → AllFormed js → allBytes is ≡ allBytes js → is ≡ js

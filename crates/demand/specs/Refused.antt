@@ -1,4 +1,4 @@
--- Demand 1. "A refused builder call changes neither state nor tables."
+-- Demand 1. "a refused builder call changes neither state nor tables"
 -- Assumes nothing.
 use mathlib.Core.Path.{_≡_}
 use contract.Lifetimes.{Lfts}
@@ -10,11 +10,11 @@ use Rattle.demand.specs.History.{no}
 use Rattle.demand.specs.Calls.{PublicCall}
 use Rattle.demand.specs.World.{World, Slice, Made}
 
--- of every call on a builder
+-- of every call on a builder (R26, R57)
 abbrev pub RefusedSame : Type 0
 RefusedSame = (c : PublicCall) (w w′ : World) (r : Refusal) → Made c w (no r) w′ → w′ ≡ w
 
--- of `new`, which hands out no state and is lent the starts alone
+-- of `new`, which hands out no state and is lent the starts alone (R26)
 abbrev pub NewRefused : Type 0
 NewRefused =
     (told : Depth) (κs : Lfts 1) (entry exit : Slice) (r : Refusal) → new-says κs (told, (entry, tt)) (Refused r) (told, (exit, tt))

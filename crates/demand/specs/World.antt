@@ -196,7 +196,7 @@ pub record By {K A R : Type 0} (contract : K → A → R → A → Type 0) (args
   pub gives : g ≡ tells answer
   pub leaves : w′ ≡ becomes answer exit w
 
--- the call c on the world w answers g and leaves w′: what the function's own contract allows
+-- the call c on the world w answers g and leaves w′: what the function's own contract allows (R59)
 abbrev pub Made : PublicCall → World → Given → World → Type 0
 Made (emit′ k) w = By emit-says (λ t. (w .state, (k, (t .code, (t .locations, tt))))) given emission w
 Made (emit-u8 k a) w = By emit-u8-says (λ t. (w .state, (k, (a, (t .code, (t .locations, tt)))))) given emission w
@@ -264,7 +264,7 @@ pub record Run : Type 0 where
 abbrev pub next : Run → PublicCall → Given → World → Run
 next x c g w′ = record { world = w′; history = seen (x .history) (x .world .state .core .depth) (kindOf c) g }
 
--- "any calls .. refusals among them, state and tables handed on unaltered", from one standing to another
+-- "Any calls .., refusals among them, state and tables handed on unaltered" (R59), from one standing to another
 pub data Taken (x : Run) : Run → Type 0 where
   none : Taken x x
   then : {y : Run} (c : PublicCall) (g : Given) (w′ : World) → Taken x y → Made c (y .world) g w′ → Taken x (next y c g w′)

@@ -1,4 +1,4 @@
--- Document 01, "Proved examples, a single table and statement": A to L, each about what a call's promise says of it.
+-- The rules' examples A to L, a single table and statement (R61), each about what a call's promise says of it.
 -- Assumes nothing.
 use mathlib.Core.Path.{_≡_}
 use mathlib.Core.List.{List, [], _∷_, _++_}
@@ -72,18 +72,18 @@ Checks code starts answer depths =
     (d d′ : List ℕ) (r : Checked) → length code < length d → Promise lastOpcode code starts d d′ r
     → (r ≡ answer) × (d′ ≡ depths ++ drop (length depths) d)
 
--- "those nine bytes"
+-- A's nine bytes
 abbrev pub code-a : List ℕ
 code-a = 0x06 ∷ 0x5A ∷ 0x03 ∷ 0x00 ∷ 0x08 ∷ 0x07 ∷ 0x00 ∷ 0x05 ∷ 0x65 ∷ []
 
 abbrev pub code-k : List ℕ
 code-k = 0x05 ∷ 0x58 ∷ 0xFC ∷ 0xFF ∷ []
 
--- "start (0, 0)"
+-- start (0, 0)
 abbrev pub from-zero : List ℕ
 from-zero = 0 ∷ 0 ∷ []
 
--- "rows 2..8 to 20, 0..10 to 30"
+-- H's two handlers
 abbrev pub to-20 : ExceptionEntry
 to-20 = record { start = 2; end = 8; handler = 20; «stack_depth» = 0; «exception_stack_count» = 0; kind = Consuming }
 
@@ -96,7 +96,7 @@ entries = to-20 ∷ to-30 ∷ []
 abbrev pub rows : List ℕ
 rows = tableOf entries
 
--- the twelve
+-- the twelve (R61)
 pub record Examples : Type 0 where
   -- A: depths 0, 1, 0, 1, 0, 1 at 0, 1, 4, 6, 7, 8; end none; count 6
   pub a : Checks code-a from-zero (C.Accepted 6) (0 ∷ 1 ∷ 65536 ∷ 65536 ∷ 0 ∷ 65536 ∷ 1 ∷ 0 ∷ 1 ∷ 65536 ∷ [])

@@ -1,1 +1,1 @@
-// Document 01's examples A to L. No functions: the table in specs/, its proof in proofs/.
+// The rules' examples A to L. No functions: the table in specs/, its proof in proofs/.

@@ -1,4 +1,4 @@
--- The depth behind an instruction: document 01, "Enough depth means that the net effect stays at or above zero", refusals 4 and 5.
+-- The depth behind an instruction: R11, R12.
 -- Assumes nothing.
 use Prim.Native.Nat.{ℕ, _+_, _-_}
 use lib.Dec.{leb}
@@ -22,18 +22,18 @@ landing low d (E.By up down) =
     pick (leb down (d + up)) (pick (leb (d + up - down) deepest) (Depth (d + up - down)) (Refused DepthTooLarge)) (Refused low)
 landing low d (E.Refused r) = Refused r
 
--- line 4: below 0 after falling through
+-- line 4: below 0 after falling through (R11)
 abbrev pub lowFalling : Refusal
 lowFalling = DepthBelowZero
 
--- line 5, "or a taken depth below 0"
+-- line 5, "or a taken depth below 0" (R12)
 abbrev pub lowTaken : Refusal
 lowTaken = DepthTooLarge
 
--- the depth after falling through: 1, 2, then 4 or 5
+-- the depth after falling through: 1, 2, then 4 or 5 (R11)
 abbrev pub afterOf : ℕ → ℕ → Operand → After
 afterOf d k o = landing lowFalling d (effectOf k o)
 
--- the depth that a taken jump arrives with: 1, 3, then 5
+-- the depth that a taken jump arrives with: 1, 3, then 5 (R12)
 abbrev pub takenDepthOf : ℕ → ℕ → After
 takenDepthOf d k = landing lowTaken d (takenOf k)

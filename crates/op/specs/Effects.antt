@@ -1,4 +1,4 @@
--- What an instruction does to the depth of the stack: op.rs, `stack_effect`, `jump_taken_stack_effect`; document 01, "Bytes and depths".
+-- What an instruction does to the depth of the stack: op.rs, `stack_effect`, `jump_taken_stack_effect`; R7 to R10.
 -- An effect is a number to add, `up`, and a number to take away, `down`; the net effect is `up` - `down`.
 -- Assumes nothing.
 use mathlib.Core.Bool.{Bool, true, false}
@@ -56,7 +56,7 @@ formerOf (O.CallKw positional names) = positional
 formerOf (O.CallAttrKw attribute positional names) = positional
 formerOf (O.U16U16U8 a b c) = 0
 
--- document 01, "Those with operands": a rule over an operand's former and last number
+-- R8, "The others go by their operand": a rule over an operand's former and last number
 unfoldable pub effectBy : Rule → ℕ → ℕ → Effect
 effectBy minus3 m n = By 0 3
 effectBy minus2 m n = By 0 2
@@ -77,7 +77,7 @@ effectBy assert m n = By 0 (1 + n / 16 % 2)
 effectBy assert-failed m n = By 0 (2 + n / 16 % 2)
 effectBy match-keys m n = pick (eqb n 1) (By 0 1) (By 2 0)
 
--- "The opcode rules refuse 1, then 2": the effect of an opcode with an operand
+-- 1, then 2: the effect of an opcode with an operand (R7)
 unfoldable pub effectOf : ℕ → Operand → Effect
 effectOf k o =
     pick (known k)
@@ -86,7 +86,7 @@ effectOf k o =
     (Refused WrongShape))
     (Refused UnknownOpcode)
 
--- "Jumps, falling through / taken": the taken effects, refusing 1, then 3
+-- "A jump has two effects, falling through and taken": the taken effects, refusing 1, then 3 (R9)
 unfoldable pub takenOf : ℕ → Effect
 takenOf k =
     pick (known k)
@@ -100,12 +100,12 @@ abbrev pub Small : Effect → Type 0
 Small (By up down) = (up < 2147483648) × (down < 2147483648)
 Small (Refused r) = Unit {0}
 
--- an effect as the Rust's signed number
+-- an effect as the Rust's signed number (R8)
 abbrev pub netOf : Effect → NetEffect
 netOf (By up down) = N.Net (subℕ up down)
 netOf (Refused r) = N.Refused r
 
--- "Exactly six opcodes make the code dead"
+-- "Six opcodes make the code behind them dead" (R10)
 unfoldable pub deadMaker : ℕ → Bool
 deadMaker k = isIn k (ReturnValue ∷ Raise ∷ Reraise ∷ RaiseUnboundLocal ∷ AssertFailed ∷ Jump ∷ [])
 
@@ -113,7 +113,7 @@ deadMaker k = isIn k (ReturnValue ∷ Raise ∷ Reraise ∷ RaiseUnboundLocal �
 abbrev pub deadnessOf : ℕ → Deadness
 deadnessOf k = pick (known k) (pick (deadMaker k) D.Dead D.Live) (D.Refused UnknownOpcode)
 
--- the number by which the code knows a rule; no rule of document 01
+-- the number by which the code knows a rule; no rule of docs/RULES.md
 abbrev pub ruleNumber : Rule → ℕ
 ruleNumber minus3 = 0
 ruleNumber minus2 = 1

@@ -1,4 +1,4 @@
--- The flags of Assert and AssertFailed: document 01, "Assert flags"; op.rs, `assert_flags`, `decode_assert_flags`; CmpOperator.
+-- The flags of Assert and AssertFailed: R6; op.rs, `assert_flags`, `decode_assert_flags`; CmpOperator.
 -- Assumes nothing.
 use mathlib.Core.List.{List, [], _∷_}
 use Prim.Native.Nat.{ℕ, _+_, _-_}
@@ -31,12 +31,12 @@ comparisons =
     F.Valid (C.With Eq) ∷ F.Valid (C.With NotEq) ∷ F.Valid (C.With Lt) ∷ F.Valid (C.With LtE) ∷ F.Valid (C.With Gt) ∷
     F.Valid (C.With GtE) ∷ F.Valid (C.With Is) ∷ F.Valid (C.With IsNot) ∷ F.Valid (C.With In) ∷ F.Valid (C.With NotIn) ∷ []
 
--- "0 means no comparison; 0x10 to 0x19 mean comparison 0 to 9"
+-- "0 means no comparison, 0x10 to 0x19 comparison 0 to 9" (R6)
 abbrev pub flagsOf : Compared → ℕ
 flagsOf C.Nothing = 0
 flagsOf (C.With operator) = 0x10 + comparisonNumber operator
 
--- the same, read: "every other byte is invalid"
+-- the same, read: "every other byte is invalid" (R6)
 unfoldable pub decodedFlags : ℕ → AssertFlags
 decodedFlags b =
     pick (eqb b 0) (F.Valid C.Nothing) (pick (leb 0x10 b) (getD comparisons (b - 0x10) F.Invalid) F.Invalid)

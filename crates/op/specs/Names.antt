@@ -18,7 +18,7 @@ ascii (_then_ c s) = code c ∷ ascii s
 abbrev pub nameIn : Row → List ℕ
 nameIn (op name shape rule) = ascii name
 
--- an opcode's name; nothing for a number that is no opcode's
+-- an opcode's name; nothing for a number that is no opcode's (R5)
 unfoldable pub nameOf : ℕ → List ℕ
 nameOf k = nameIn (rowOf k)
 
@@ -44,6 +44,6 @@ nameStarts = begins 0 table
 abbrev pub between : List ℕ → ℕ → ℕ → List ℕ
 between text a e = pick (leb e (length text)) (take (e - a) (drop a text)) []
 
--- the name of opcode k in a text, by where the names begin in it
+-- the name of opcode k in a text, by where the names begin in it (R5)
 unfoldable pub nameBy : List ℕ → List ℕ → ℕ → List ℕ
 nameBy text starts k = between text (getD starts k 0) (getD starts (k + 1) 0)

@@ -9,7 +9,7 @@ use lib.ListN.{getD}
 use Rattle.op.specs.declared.Shape.{Shape}
 use Rattle.op.specs.declared.Shape.the-variants.{None, U8, I8, U16, Offset, U8U8, U16U8, U16U16, U16U8U8, CallKw, CallAttrKw, U16U16U8}
 
--- document 01, "Bytes and depths": what an effect is. The first six are fixed; the others go by the operand (Effects.antt)
+-- R7, R8: what an effect is. The first six are fixed; the others go by the operand (Effects.antt)
 pub data Rule : Type 0 where
   minus3 : Rule
   minus2 : Rule
@@ -46,7 +46,7 @@ pub data Rule : Type 0 where
 pub data Row : Type 0 where
   op : String → Shape → Rule → Row
 
--- op.rs, `enum Opcode` with `operand_shape` and `stack_effect`: the first is opcode 0, the last 130
+-- op.rs, `enum Opcode` with `operand_shape` and `stack_effect`: the first is opcode 0, the last 130 (R1, R7)
 unfoldable pub table : List Row
 table =
     op "Pop" None minus1 ∷  -- 0
@@ -181,15 +181,15 @@ table =
     op "SinkTop" U8 same ∷  -- 129
     op "RaiseFrom" None minus2 ∷ []  -- 130
 
--- document 01, "131 opcodes 0 to 130": the last one
+-- R1, "131 opcodes, numbered 0 to 130": the last one
 abbrev pub lastOpcode : ℕ
 lastOpcode = 130
 
--- refusal 1, "opcode above 130": whether an opcode is in a table that ends with the opcode `last`
+-- refusal 1, "the opcode is above 130": whether an opcode is in a table that ends with the opcode `last`
 abbrev pub knownUpTo : ℕ → ℕ → Bool
 knownUpTo last k = leb k last
 
--- the same of the table above
+-- the same of the table above (R2)
 unfoldable pub known : ℕ → Bool
 known k = knownUpTo lastOpcode k
 
@@ -202,11 +202,11 @@ abbrev pub numbersFrom : ℕ → List Row → List ℕ
 numbersFrom k [] = []
 numbersFrom k (r ∷ rs) = k ∷ numbersFrom (k + 1) rs
 
--- every opcode, in the order of op.rs
+-- every opcode, in the order of op.rs (R1)
 unfoldable pub opcodeNumbers : List ℕ
 opcodeNumbers = numbersFrom 0 table
 
--- the opcodes that document 01's rules name
+-- the opcodes that the rules name
 abbrev pub Jump : ℕ
 Jump = 88
 

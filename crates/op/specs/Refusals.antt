@@ -1,10 +1,10 @@
--- The numbers of document 01's table of refusals.
+-- The numbers of the refusals: R27's table.
 -- Assumes nothing.
 use Prim.Native.Nat.{ℕ}
 use Rattle.op.specs.declared.Refusal.{Refusal}
 use Rattle.op.specs.declared.Refusal.the-variants as R
 
--- document 01, "Refusal numbers", one line for each of its lines
+-- R27, one line for each of its lines
 abbrev pub numberOf : Refusal → ℕ
 numberOf R.UnknownOpcode = 1
 numberOf (R.UnknownOpcodeAt offset) = 1

@@ -1,4 +1,4 @@
--- The shapes of operands: op.rs, `OperandShape`, `operand_shape`, `Operand::shape`; document 01, "Bytes and depths".
+-- The shapes of operands: op.rs, `OperandShape`, `operand_shape`, `Operand::shape`; R3, R4.
 -- Assumes nothing.
 use mathlib.Core.Path.{_≡_}
 use Prim.Native.Nat.{ℕ, _+_, _*_}
@@ -12,7 +12,7 @@ use Rattle.op.specs.declared.Shape.the-variants as S
 use Rattle.op.specs.declared.Shaped.{Shaped}
 use Rattle.op.specs.declared.Shaped.the-variants.{Is, Refused}
 
--- op.rs, `enum OperandShape`: the shapes' numbers
+-- op.rs, `enum OperandShape`: the shapes' numbers (R3)
 abbrev pub shapeNumber : Shape → ℕ
 shapeNumber S.None = 0
 shapeNumber S.U8 = 1
@@ -35,11 +35,11 @@ shapeIn (op name shape rule) = shape
 unfoldable pub shapeNo : ℕ → ℕ
 shapeNo k = pick (known k) (shapeNumber (shapeIn (rowOf k))) 12
 
--- op.rs, `operand_shape`: an opcode's shape, or 1
+-- op.rs, `operand_shape`: an opcode's shape, or 1 (R2)
 unfoldable pub shapeOf : ℕ → Shaped
 shapeOf k = pick (known k) (Is (shapeIn (rowOf k))) (Refused UnknownOpcode)
 
--- op.rs, `Operand::shape`: the shape of an operand
+-- op.rs, `Operand::shape`: the shape of an operand (R3)
 abbrev pub operandShape : Operand → Shape
 operandShape O.None = S.None
 operandShape (O.U8 a) = S.U8
@@ -54,7 +54,7 @@ operandShape (O.CallKw positional names) = S.CallKw
 operandShape (O.CallAttrKw attribute positional names) = S.CallAttrKw
 operandShape (O.U16U16U8 a b c) = S.U16U16U8
 
--- document 01, "Instruction sizes", with n keyword names
+-- R4, with n keyword names
 unfoldable pub sizeOf : Shape → ℕ → ℕ
 sizeOf S.None n = 1
 sizeOf S.U8 n = 2

@@ -23,7 +23,7 @@ pub enum Table {
     Text,
 }
 
-// A refusal: a case for each number of document 01's table, in its order. `refusals::number` gives the number.
+// A refusal: a case for each number of R27's table, in its order. `refusals::number` gives the number.
 pub enum Refusal {
     // 1: opcode above the last one, given
     UnknownOpcode,

@@ -3,7 +3,7 @@ ghost use mathlib.Core.Path.{_≡_};
 ghost use Rattle.op.specs.Refusals.{numberOf};
 use crate::Refusal;
 
-// Document 01's number of a refusal.
+// The number of a refusal (R27).
 pub fn number(refusal: Refusal) -> u8
     ensures { λ r. ⌜ r ≡ numberOf refusal ⌝ }
 {

@@ -1,4 +1,4 @@
--- Where a reader goes on: document 01, "An instruction reader that holds the code and its place serves `listing`".
+-- Where a reader goes on: R14, one step after another.
 -- Assumes nothing.
 use mathlib.Core.List.{List}
 use Prim.Native.Nat.{ℕ, _+_}

@@ -1,4 +1,4 @@
--- Document 01's listing of nine bytes, and the two inputs that have one line, computed.
+-- The listing of nine bytes (R55, R56), and the two inputs that have one line, computed.
 -- Assumes nothing.
 use mathlib.Core.Path.{_≡_, refl}
 use mathlib.Core.List.{List, [], _∷_}
@@ -18,12 +18,12 @@ pub example : listingOf (0x06 ∷ 0x5A ∷ 0x03 ∷ 0x00 ∷ 0x08 ∷ 0x07 ∷ 0
 unfolding listingOf linesOf lineOf header decode stepIn shapeUpTo operandIn namesAt signed shapeOf sizeOf known rowOf table nameOf decimal upTo
 example = refl
 
--- "Empty input gives the header alone"
+-- "Of no bytes it is the header alone"
 pub nothing : listingOf [] ≡ ascii "offset\tname\toperands\ttarget\n"
 unfolding listingOf linesOf header
 nothing = refl
 
--- "more: the single line `!`, tab, 0, tab, 10"
+-- "the single line `!`, 0, 10"
 pub too-long : (code : List ℕ) → most < length code → listingOf code ≡ ascii "!\t0\t10\n"
 unfolding listingOf faultLine decimal upTo
 too-long code h = rw (lt-leb (length code) most h)

@@ -1,4 +1,4 @@
--- Numbers in decimal: document 01, "The program `listing`", "displacement and I8 signed".
+-- Numbers in decimal: "a displacement and an i8 signed" (R55).
 -- Assumes nothing.
 use mathlib.Core.Bool.{Bool, true, false}
 use mathlib.Core.List.{List, [], _∷_, _++_}

@@ -1,4 +1,4 @@
--- The pieces in which a line is written, and what their writers ask; no rule of document 01.
+-- The pieces in which a line is written, and what their writers ask; no rule says anything of them.
 -- Assumes nothing.
 use mathlib.Core.Path.{_≡_}
 use mathlib.Core.List.{List, [], _∷_, _++_}

@@ -1,4 +1,4 @@
--- A whole listing: document 01, "The program `listing`"; refusals 1, 10 and 22.
+-- A whole listing: R55, R56; refusals 1, 10 and 22 (R27).
 -- Assumes nothing.
 use mathlib.Core.List.{List, [], _∷_, _++_}
 use Prim.Native.Nat.{ℕ, zero, suc, _+_, _-_}
@@ -18,19 +18,19 @@ use Rattle.text.specs.Decimal.{decimal}
 use Rattle.text.specs.Parts.{join}
 use Rattle.text.specs.Row.{rowOf, fieldsText}
 
--- "lines ending in LF"
+-- "ended by LF"
 abbrev pub line : List ℕ → List ℕ
 line t = t ++ (10 ∷ [])
 
--- "The first line is a header"
+-- "A listing's first line is a header"
 unfoldable pub header : List ℕ
 header = line (ascii "offset\tname\toperands\ttarget")
 
--- "A fault ends it with `!`, offset, refusal number"
+-- "A fault ends it with a line `!`, offset, refusal number" (R56)
 unfoldable pub faultLine : ℕ → Refusal → List ℕ
 faultLine at r = line (join 9 ((33 ∷ []) ∷ decimal at ∷ decimal (numberOf r) ∷ []))
 
--- "up to 65,536": the most bytes that are listed
+-- up to 65,536: the most bytes that are listed
 abbrev pub most : ℕ
 most = 65536
 
@@ -55,11 +55,11 @@ unfoldable pub linesOf : ℕ → ℕ → List ℕ → List ℕ
 linesOf zero at u = []
 linesOf (suc n) at u = let more = linesOf n in lineOf nameOf at u ++ behind more at u (decode lastOpcode at u)
 
--- the whole listing; an instruction has a byte at least, so there are no more lines than bytes
+-- the whole listing; an instruction has a byte at least, so there are no more lines than bytes (R55)
 unfoldable pub listingOf : List ℕ → List ℕ
 listingOf code = pick (leb (length code) most) (header ++ linesOf (length code) 0 code) (faultLine 0 TooLarge)
 
--- the first line of a listing of so many bytes
+-- the first line of a listing of so many bytes (R56)
 unfoldable pub firstLine : ℕ → List ℕ
 firstLine size = pick (leb size most) header (faultLine 0 TooLarge)
 

@@ -1,4 +1,4 @@
--- A text in parts between separators: document 01, "parted by tabs", "joined by commas".
+-- A text in parts between separators: "parted by tabs", "joined by commas" (R55).
 -- Assumes nothing.
 use mathlib.Core.Bool.{Bool, true, false}
 use mathlib.Core.List.{List, [], _∷_, _++_}

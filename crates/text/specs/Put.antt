@@ -1,4 +1,4 @@
--- A text written into a lent slice: document 01, refusal 18 and "Bytes past a used count never change".
+-- A text written into a lent slice: refusal 18 (R27), and what stands elsewhere never changes (R26).
 -- Assumes nothing.
 use mathlib.Core.Path.{_≡_}
 use mathlib.Core.Bool.{Bool}
@@ -18,7 +18,7 @@ pub record Put (old : List ℕ) (at : ℕ) (text : List ℕ) (next : ℕ) (out :
   pub next-is : next ≡ at + length text
   pub out-is : out ≡ sets old at text
 
--- "18: more rows or bytes wanted than are left": whether no more are wanted
+-- 18, "no room": whether no more are wanted
 abbrev pub fits : List ℕ → ℕ → List ℕ → Bool
 fits old at text = leb (length text) (length old - at)
 

@@ -1,4 +1,4 @@
--- A line of a listing read back: the row that a text says, where it is one. Document 01 only writes them; a later request reads.
+-- A line of a listing read back: the row that a text says, where it is one. The rules only write them (R55).
 -- Assumes nothing.
 use mathlib.Core.Bool.{Bool, true, false, not}
 use mathlib.Core.List.{List, [], _∷_}

@@ -1,4 +1,4 @@
--- What a line of a listing says, and its text: document 01, "The program `listing`".
+-- What a line of a listing says, and its text: R55.
 -- Assumes nothing.
 use mathlib.Core.List.{List, [], _∷_}
 use mathlib.Core.Option.{Option, none, some}
@@ -10,7 +10,7 @@ use Rattle.op.specs.declared.Operand.the-variants as O
 use Rattle.text.specs.Decimal.{decimal, wholeText}
 use Rattle.text.specs.Parts.{join}
 
--- "offset, opcode name, operands in byte order, target of a jump": four fields, the opcode by its number
+-- offset, name, "operands in byte order", "target of a jump": four fields, the opcode by its number
 pub record Row : Type 0 where
   pub offset : ℕ
   pub opcode : ℕ
@@ -37,7 +37,7 @@ operandsOf (O.CallKw positional n) names = pos positional ∷ pos n ∷ wholes n
 operandsOf (O.CallAttrKw attribute positional n) names = pos attribute ∷ pos positional ∷ pos n ∷ wholes names
 operandsOf (O.U16U16U8 a b c) names = pos a ∷ pos b ∷ pos c ∷ []
 
--- "Displacement = target - opcode offset - 3": the target of a jump
+-- "its target less the offset of its opcode less 3": the target of a jump
 abbrev pub targetOf : ℕ → Operand → Option ℤ
 targetOf at O.None = none
 targetOf at (O.U8 a) = none
@@ -75,11 +75,11 @@ abbrev pub targetColumn : Option ℤ → List ℕ
 targetColumn none = dash
 targetColumn (some z) = wholeText z
 
--- "four fields parted by tabs", with a text for the opcode's name
+-- "parted by tabs", with a text for the opcode's name
 abbrev pub fieldsText : List ℕ → Row → List ℕ
 fieldsText name r =
     join 9 (decimal (r .offset) ∷ name ∷ operandColumn (r .operands) ∷ targetColumn (r .target) ∷ [])
 
--- a row's text
+-- a row's text (R55)
 unfoldable pub rowText : Row → List ℕ
 rowText r = fieldsText (nameOf (r .opcode)) r

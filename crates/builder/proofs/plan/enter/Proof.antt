@@ -1,4 +1,4 @@
--- `builder::plan::enter` meets its contract: its tests are the definition's, in document 01's order.
+-- `builder::plan::enter` meets its contract: its tests are the definition's, in R28's order.
 -- Assumes nothing.
 use Rattle.builder.specs.Plan.{enterOf}
 use Rattle.op.specs.Opcodes.{known}

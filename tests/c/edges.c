@@ -1,0 +1,144 @@
+/* Calls the functions that read code, write an instruction and look in tables with arrays of every small length, each
+ * up to a fence and null where it is 0: no byte past an array is read, what is refused changes nothing, and an accepted
+ * call writes no more than it says.
+ * Prints a line for each check that fails, then the counts; exit status 1 where one failed. */
+#define _DEFAULT_SOURCE
+#include "fences.h"
+
+/* The arrays that the calls are lent, by the fences that hold them. */
+enum { CODE = TF_TABLE_CODE, ROWS = TF_TABLE_LOCATIONS, DEPTHS = TF_TABLE_MARKS, PAIRS = TF_TABLE_STARTS,
+       NUMBERS = TF_TABLE_NAMES, OUT = TF_TABLE_TEXT, MOST = 40 };
+
+#define LENT(type, array) (type *)lent_at(array), lent[array].length
+
+static uint8_t random_byte(void)
+{
+    static uint64_t seed = 0x9E3779B97F4A7C15u;
+    seed ^= seed << 13, seed ^= seed >> 7, seed ^= seed << 17;
+    return (uint8_t)(seed >> 32);
+}
+
+/* Code of so many bytes, most of them opcodes. */
+static void lend_code(size_t length)
+{
+    lend(CODE, length);
+    for (size_t i = 0; i < length; i++)
+        ((uint8_t *)lent_at(CODE))[i] = random_byte() % 8 == 0 ? random_byte() : random_byte() % NO_OPCODE;
+}
+
+/* Whether an answer is one of these refusals and has left all as it was. */
+static int refused_by(tf_answer answer, uint32_t first, uint32_t second)
+{
+    return (tf_refusal(answer) == first || tf_refusal(answer) == second) && all_kept();
+}
+
+static void steps(size_t length)
+{
+    lend_code(length);
+    for (size_t at = 0; at <= length + 1; at++) {
+        for (size_t room = 0; room <= TF_STEP_CELLS + 1; room++) {
+            lend(OUT, room);
+            remember();
+            tf_answer answer = tf_step(LENT(const uint8_t, CODE), at, LENT(uint64_t, OUT));
+            const uint64_t *cell = lent_at(OUT);
+            if (answer == 1)
+                report("a step", at + cell[TF_STEP_SIZE] <= length && blank_from(OUT, TF_STEP_CELLS) && kept(CODE));
+            else if (answer == 0)
+                report("the end", at >= length && all_kept());
+            else if (tf_refusal(answer) == TF_FULL)
+                report("no room", room < TF_STEP_CELLS && tf_named(answer) == TF_TABLE_TEXT && all_kept());
+            else
+                report("a fault", tf_named(answer) == at && refused_by(answer, TF_UNKNOWN_OPCODE, TF_CUT_SHORT));
+        }
+    }
+}
+
+static void counts(size_t length)
+{
+    lend_code(length);
+    remember();
+    tf_answer answer = tf_count_instructions(LENT(const uint8_t, CODE));
+    if (tf_refusal(answer) == 0)
+        report("counted", answer <= length && kept(CODE));
+    else
+        report("not counted", tf_named(answer) < length && refused_by(answer, TF_UNKNOWN_OPCODE, TF_CUT_SHORT));
+}
+
+static void checks_of(size_t length, size_t pairs, size_t room)
+{
+    lend_code(length);
+    lend(PAIRS, pairs);
+    for (size_t i = 0; i < pairs; i++)
+        ((uint32_t *)lent_at(PAIRS))[i] = random_byte() % 2;
+    lend(DEPTHS, room);
+    remember();
+    tf_answer answer = tf_check(LENT(const uint8_t, CODE), LENT(const uint32_t, PAIRS), LENT(uint32_t, DEPTHS));
+    if (tf_refusal(answer) == 0 || tf_refusal(answer) == TF_NO_DEPTHS)
+        report("depths", room > length && blank_from(DEPTHS, length + 1) && kept(CODE) && kept(PAIRS));
+    else
+        report("no depths are written", all_kept());
+    report("too few depths", (tf_refusal(answer) == TF_SHORT_DEPTHS) == (room <= length));
+}
+
+/* Both lookups in rows, and both in numbers, with rows of any length and so much room. */
+static void lookups(size_t length, size_t room)
+{
+    lend(ROWS, length);
+    for (size_t i = 0; i < length; i++)
+        ((uint32_t *)lent_at(ROWS))[i] = random_byte() % 8;
+    lend(NUMBERS, length);
+    lend(OUT, room);
+    remember();
+    for (uint32_t offset = 0; offset < 9; offset++) {
+        const tf_answer answers[] = {
+            tf_location_for_offset(LENT(const uint32_t, ROWS), offset, LENT(uint64_t, OUT)),
+            tf_find_exception_handler(LENT(const uint32_t, ROWS), offset, LENT(uint64_t, OUT)),
+            tf_constant(LENT(const uint64_t, NUMBERS), offset, LENT(uint64_t, OUT)),
+            tf_local_name(LENT(const uint64_t, NUMBERS), offset, LENT(uint64_t, OUT)),
+        };
+        for (size_t i = 0; i < 4; i++)
+            report("found, none, or no room", answers[i] <= 1 || tf_refusal(answers[i]) == TF_FULL);
+        report("past the numbers", (answers[2] == 0) == (offset >= length) && answers[3] == 0);
+        report("what is read stays", kept(ROWS) && kept(NUMBERS) && blank_from(OUT, TF_ROW_CELLS));
+    }
+}
+
+static void writes(uint8_t opcode, size_t room)
+{
+    static const uint16_t names[3] = {1, 2, 3};
+    uint8_t shape = (uint8_t)tf_value(tf_operand_shape(opcode));
+    size_t count = shape == TF_SHAPE_CALL_KW || shape == TF_SHAPE_CALL_ATTR_KW ? 3 : 0;
+    size_t size = (size_t)tf_value(tf_instruction_size(opcode, (uint8_t)count));
+    lend(CODE, room);
+    remember();
+    tf_answer answer = tf_write(LENT(uint8_t, CODE), opcode, shape, 9, 9, 9, count == 0 ? NULL : names, count);
+    if (room < size)
+        report("no room to write", tf_named(answer) == TF_TABLE_CODE && refused_by(answer, TF_FULL, TF_FULL));
+    else
+        report("written", answer == size && blank_from(CODE, size));
+    lend(CODE, room);
+    remember();
+    answer = tf_opcode_name(opcode, LENT(uint8_t, CODE));
+    if (tf_refusal(answer) == 0)
+        report("named", answer <= room && blank_from(CODE, (size_t)answer));
+    else
+        report("no room for the name", tf_named(answer) == TF_TABLE_TEXT && refused_by(answer, TF_FULL, TF_FULL));
+}
+
+int main(void)
+{
+    raise_fences();
+    for (size_t length = 0; length < MOST; length++) {
+        steps(length);
+        for (size_t round = 0; round < MOST; round++) {
+            counts(length);
+            checks_of(length, round % 6, length + round % 4);
+            lookups(length, round % 9);
+        }
+    }
+    for (int opcode = 0; opcode <= TF_OP_LAST; opcode++)
+        for (size_t room = 0; room < 24; room++)
+            writes((uint8_t)opcode, room);
+    drop_fences();
+    return verdict("edges");
+}
