@@ -3,15 +3,14 @@
 
 use std::{
     path::{Path, PathBuf},
-    process::Command,
     time::Instant,
 };
 
-use crate::row;
+use crate::{row, start};
 
 fn run(program: &Path) -> (f64, Vec<u8>) {
     let begun = Instant::now();
-    let output = Command::new(program).output().expect("the program runs");
+    let output = start(program).output().expect("the program runs");
     assert!(output.status.success());
     (begun.elapsed().as_secs_f64(), output.stdout)
 }

@@ -5,12 +5,13 @@ use crate::{
     decode::{Operand, Step, step},
     median, row,
     rules::NAMES,
+    start,
 };
 use std::{
     fmt::Write as _,
     fs::{self, File},
     path::{Path, PathBuf},
-    process::{Command, Stdio},
+    process::Stdio,
     time::Instant,
 };
 
@@ -124,7 +125,7 @@ fn itoa(number: i64) -> Digits {
 fn run(program: &Path, input: &Path) -> f64 {
     let stdin = File::open(input).expect("the input");
     let begun = Instant::now();
-    let status = Command::new(program)
+    let status = start(program)
         .stdin(stdin)
         .stdout(Stdio::null())
         .status()
@@ -135,7 +136,7 @@ fn run(program: &Path, input: &Path) -> f64 {
 
 fn printed(program: &Path, input: &Path) -> Vec<u8> {
     let stdin = File::open(input).expect("the input");
-    Command::new(program)
+    start(program)
         .stdin(stdin)
         .output()
         .expect("the program runs")
