@@ -1,6 +1,6 @@
 // A plugin for the emulator that counts the instructions a program executes, and its loads and stores in one number, by
-// function. It is for bench/count, which builds it. Debian's emulator takes plugins but its header is in no package, so the few functions that are used are
-// declared here, as version 1 of that interface has them (QEMU 6.0 and later).
+// function. It is for bench/count, which builds it. Debian's emulator takes plugins but its header is in no package, so
+// the few functions that are used are declared here, as version 1 of that interface has them.
 #include <inttypes.h>
 #include <stdio.h>
 #include <stdlib.h>
@@ -11,13 +11,14 @@ struct qemu_plugin_insn;
 enum { INLINE_ADD_U64 = 0, LOADS_AND_STORES = 3 };
 void qemu_plugin_register_vcpu_tb_trans_cb(uint64_t id, void (*seen)(uint64_t, struct qemu_plugin_tb *));
 void qemu_plugin_register_vcpu_tb_exec_inline(struct qemu_plugin_tb *block, int how, void *cell, uint64_t amount);
-void qemu_plugin_register_vcpu_mem_inline(struct qemu_plugin_insn *instruction, int which, int how, void *cell, uint64_t amount);
+void qemu_plugin_register_vcpu_mem_inline(struct qemu_plugin_insn *instruction, int which, int how, void *cell,
+                                          uint64_t amount);
 void qemu_plugin_register_atexit_cb(uint64_t id, void (*done)(uint64_t, void *), void *with);
 size_t qemu_plugin_tb_n_insns(const struct qemu_plugin_tb *block);
 struct qemu_plugin_insn *qemu_plugin_tb_get_insn(const struct qemu_plugin_tb *block, size_t at);
 const char *qemu_plugin_insn_symbol(const struct qemu_plugin_insn *instruction);
 
-__attribute__((visibility("default"))) int qemu_plugin_version = 1;
+int qemu_plugin_version = 1;
 
 enum { MOST = 4096 };
 struct function {
@@ -62,7 +63,7 @@ static void done(uint64_t id, void *with) {
     }
 }
 
-__attribute__((visibility("default"))) int qemu_plugin_install(uint64_t id, const void *about, int count, char **words) {
+int qemu_plugin_install(uint64_t id, const void *about, int count, char **words) {
     (void)about;
     (void)count;
     (void)words;

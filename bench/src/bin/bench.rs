@@ -1,6 +1,6 @@
-//! Times the proved library beside plain Rust written for the purpose, or beside the original Rust where it has the same. Both sides do the same work on the same
-//! bytes, turn by turn in one process; the ratio is that of the medians. Buffers are warm: each side has run once
-//! before it is timed.
+//! Times the proved library beside plain Rust written for the purpose, or beside the original Rust where it has the
+//! same. Both sides do the same work on the same bytes, turn by turn in one process; the ratio is that of the medians.
+//! Buffers are warm: each side has run once before it is timed.
 
 use bench::{building, checker, decode, emission, listing, lookups::Tables, row};
 use std::{cell::RefCell, env, time::Instant};

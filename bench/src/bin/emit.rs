@@ -1,7 +1,8 @@
 //! Builds the rules of one of bench's works on one side, for bench/count.
 //!
 //! Usage: emit SIDE WORK ROUNDS      SIDE is original, crate or lent; WORK counts from 0
-//!        emit                       lists the works: number, rounds, instructions of a rule (calls, of dead code), what it is
+//!        emit                       lists the works: number, rounds, instructions of a rule (in dead code the
+//!                                   calls), and what it is
 
 use std::env;
 

@@ -1,5 +1,5 @@
-//! The builder called from Rust, beside the original CodeBuilder: by the crate, whose tables grow, and over tables that are
-//! lent once. A rule is counted from a new builder up to what `build` gives.
+//! The builder called from Rust, beside the original CodeBuilder: by the crate, whose tables grow, and over tables that
+//! are lent once. A rule is counted from a new builder up to what `build` gives.
 
 #[macro_use]
 mod calls;
