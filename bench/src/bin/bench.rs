@@ -1,8 +1,8 @@
-//! Times the proved library beside plain Rust written for the purpose, or beside the original Rust where it has the same. Both sides do the same work on the same
-//! bytes, turn by turn in one process; the ratio is that of the medians. Buffers are warm: each side has run once
-//! before it is timed.
+//! Times the proved library beside plain Rust written for the purpose, or beside the original Rust where it has the
+//! same. Both sides do the same work on the same bytes, turn by turn in one process; the ratio is that of the medians.
+//! Buffers are warm: each side has run once before it is timed.
 
-use bench::{checker, decode, emission, listing, lookups::Tables, row};
+use bench::{building, checker, decode, emission, listing, lookups::Tables, row};
 use std::{cell::RefCell, env, time::Instant};
 
 /// Two ways to do one piece of work, each answering a number that must agree.
@@ -35,7 +35,7 @@ fn main() {
         .nth(1)
         .map_or(51, |n| n.parse().expect("a number of repetitions"));
     println!(
-        "{:<44} {:>9} {:>9} {:>7} {:>7}",
+        "{:<48} {:>9} {:>9} {:>7} {:>7}",
         "", "proved ms", "plain ms", "median", "best"
     );
     let random = decode::code(1 << 20, decode::Mix::Random);
@@ -86,5 +86,6 @@ fn main() {
         measure(&pair, repetitions);
     }
     emission::measure(repetitions);
+    building::measure(repetitions);
     listing::measure(&decode::code(1 << 16, decode::Mix::Random), repetitions);
 }
