@@ -5,3 +5,4 @@ pub mod PatchPlans
 pub mod Naming
 pub mod Displacing
 pub mod Recorded
+pub mod ByNumber

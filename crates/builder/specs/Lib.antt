@@ -10,5 +10,8 @@ pub mod Regions
 pub mod Constants
 pub mod Exceptions
 pub mod Names
+pub mod Numbered
+pub mod ByNumber
+pub mod Answers
 pub mod Recorded
 pub mod Inner
