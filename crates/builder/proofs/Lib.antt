@@ -6,3 +6,4 @@ pub mod Naming
 pub mod Displacing
 pub mod Recorded
 pub mod ByNumber
+pub mod Apart

@@ -1,5 +1,5 @@
--- Each number of `emit_numbered` is the call that it stands for: at numbers that fit their fields, it leaves exactly what
--- that call's own promise names.
+-- Each number of `emit_numbered` is the call that it stands for: at numbers that fit their fields, it leaves exactly
+-- what that call's own promise names.
 -- Assumes nothing.
 use mathlib.Core.Path.{_≡_}
 use mathlib.Core.List.{List, []}

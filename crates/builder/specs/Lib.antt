@@ -13,5 +13,6 @@ pub mod Names
 pub mod Numbered
 pub mod ByNumber
 pub mod Answers
+pub mod Apart
 pub mod Recorded
 pub mod Inner

@@ -1,7 +1,8 @@
-// The public calls of CodeBuilder, in the order of builder.rs and with its names. Each decides before it writes, and
-// what it is told is not trusted. A call's comment says what it does, then which of document 01's refusals it can give,
-// in their order. "Then, live," is where dead code is accepted and nothing changes; 18 names the first table without
-// room, of code, locations, marks. The modules behind hold what the calls share, each what its name says.
+// The public calls of CodeBuilder, in the order of builder.rs and with its names, and `emit_numbered`, which makes an
+// emitting call by its number. Each decides before it writes, and what it is told is not trusted. A call's comment says
+// what it does, then which of document 01's refusals it can give, in their order. "Then, live," is where dead code is
+// accepted and nothing changes; 18 names the first table without room, of code, locations, marks. The modules behind
+// hold what the calls share, each what its name says.
 ghost use Prim.Native.Nat.{_%_};
 ghost use Rattle.builder.specs.State.{deadOf, kept};
 ghost use Rattle.builder.specs.Locations.{positionOf, withLocation};
@@ -599,9 +600,9 @@ impl Builder {
         self.emit_u16(opcodes::STORE_LOCAL_W, slot, code, locations)
     }
 
-    // Makes the emitting call of a number, without a jump, on numbers: numbered.rt has the list. What the call does not
-    // take is not looked at.
-    // Refuses 2 where there is no such call or a number is too large for its field, then as the call.
+    // Makes an emitting call by its number, on numbers as C gives them: numbered.rt has the list, and no jump is in it.
+    // Numbers that the call does not take are not looked at.
+    // Refuses 2 where there is no such call or a number is too large for its field, then as the call does.
     pub fn emit_numbered(
         self,
         call: u8,

@@ -1,5 +1,5 @@
-// The emitting calls without a jump by number: the instruction that each comes to. Numbers are given as C gives them; one
-// that is too large for its field gives no instruction.
+// The emitting calls without a jump by number: the instruction that each comes to. Numbers are given as C gives them;
+// one that is too large for its field gives no instruction.
 ghost use Rattle.builder.specs.Numbered.{below, instructionOf, loadOf, pairOf, plain, storeOf};
 ghost use Rattle.code.specs.Bytes.{signed};
 ghost use Rattle.op.specs.Chosen.{CallAttrKw, CallFunctionKw};

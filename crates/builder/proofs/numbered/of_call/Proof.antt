@@ -1,12 +1,11 @@
--- `builder::numbered::of_call` meets its contract: at each call's number the definition computes to the arm's instruction.
+-- `builder::numbered::of_call` meets its contract: at each call's number the definition is the arm's instruction.
 -- Assumes nothing.
-use mathlib.Core.Path.{_≡_, _∙_, ap}
+use mathlib.Core.Path.{_∙_, ap}
 use Prim.Native.Nat.{ℕ}
 use native.Mathlib.Omega.{arith}
 use Rattle.op.specs.declared.Operand.the-variants.{U16, U16U16, U16U16U8}
 use Rattle.op.proofs.Keys.{at, past}
 use Rattle.builder.specs.Numbered.{instructionOf}
-use Rattle.builder.specs.declared.numbered.Instruction.{Instruction}
 use Rattle.builder.specs.declared.numbered.Instruction.the-variants.{Is}
 use Rattle.builder.proofs.ByNumber.{no-call}
 use borrow.Author.Needs.{needs}

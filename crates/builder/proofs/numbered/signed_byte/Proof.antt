@@ -21,7 +21,8 @@ to-i8-requires c κs = search needs
 returns : tie.Need-returns
 returns c =
     let start = c .before .before in
-    ap (λ (z : ℤ). Is (start .args .opcode) 0 (I8 z)) (toZ-ofZ {w = w8} (record { sfits = c .to-i8 .ok }) ∙ c .to-i8 .ensures)
+    ap (λ (z : ℤ). Is (start .args .opcode) 0 (I8 z))
+    (toZ-ofZ {w = w8} (record { sfits = c .to-i8 .ok }) ∙ c .to-i8 .ensures)
     ∙ fits 256 (start .args .a) _ (c .before .if1 .taken)
 
 returns-2 : tie.Need-returns-2
