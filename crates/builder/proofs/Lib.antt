@@ -5,3 +5,5 @@ pub mod PatchPlans
 pub mod Naming
 pub mod Displacing
 pub mod Recorded
+pub mod ByNumber
+pub mod Apart

@@ -10,5 +10,9 @@ pub mod Regions
 pub mod Constants
 pub mod Exceptions
 pub mod Names
+pub mod Numbered
+pub mod ByNumber
+pub mod Answers
+pub mod Apart
 pub mod Recorded
 pub mod Inner

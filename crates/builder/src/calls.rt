@@ -1,7 +1,8 @@
-// The public calls of CodeBuilder, in the order of builder.rs and with its names. Each decides before it writes, and
-// what it is told is not trusted. A call's comment says what it does, then which refusals (R27) it can give,
-// in their order. "Then, live," is where dead code is accepted and nothing changes; 18 names the first table without
-// room, of code, locations, marks. The modules behind hold what the calls share, each what its name says.
+// The public calls of CodeBuilder, in the order of builder.rs and with its names, and `emit_numbered`, which makes an
+// emitting call by its number. Each decides before it writes, and what it is told is not trusted. A call's comment says
+// what it does, then which refusals (R27) it can give, in their order. "Then, live," is where dead code is accepted and
+// nothing changes; 18 names the first table without room, of code, locations, marks. The modules behind hold what the
+// calls share, each what its name says.
 ghost use Prim.Native.Nat.{_%_};
 ghost use Rattle.builder.specs.State.{deadOf, kept};
 ghost use Rattle.builder.specs.Locations.{positionOf, withLocation};
@@ -11,6 +12,7 @@ ghost use Rattle.builder.specs.Exceptions.{addExceptionOf};
 ghost use Rattle.builder.specs.Names.{buildOf, registerNameOf, registerNamesOf};
 ghost use Rattle.builder.specs.Emission.{emitNamed, emitOf, loadOp, loadOperand, outcome};
 ghost use Rattle.builder.specs.Emission.{storeOp, storeOperand};
+ghost use Rattle.builder.specs.Numbered.{numberedOf};
 ghost use Rattle.builder.specs.Marks.{targetOf, targetOutcome};
 ghost use Rattle.builder.specs.Forward.{emitJumpOf, jumpOutcome};
 ghost use Rattle.builder.specs.Back.{emitJumpToOf};
@@ -36,6 +38,8 @@ use crate::exceptions;
 use crate::forward;
 use crate::marks;
 use crate::names;
+use crate::numbered;
+use crate::numbered::Instruction;
 use crate::patch;
 use crate::patch::PatchPlan;
 use crate::plan::Plan;
@@ -278,6 +282,7 @@ impl Builder {
         emission::emit_with_names(
             self,
             opcodes::CALL_FUNCTION_KW,
+            0,
             Operand::CallKw { positional, names },
             kwnames,
             code,
@@ -303,6 +308,7 @@ impl Builder {
         emission::emit_with_names(
             self,
             opcodes::CALL_ATTR_KW,
+            0,
             Operand::CallAttrKw {
                 attribute,
                 positional,
@@ -592,6 +598,31 @@ impl Builder {
             return self.emit_u8(opcodes::STORE_LOCAL, slot as u8, code, locations);
         }
         self.emit_u16(opcodes::STORE_LOCAL_W, slot, code, locations)
+    }
+
+    // Makes an emitting call by its number, on numbers as C gives them: numbered.rt has the list, and no jump is in it.
+    // Numbers that the call does not take are not looked at.
+    // Refuses 2 where there is no such call or a number is too large for its field, then as the call does.
+    pub fn emit_numbered(
+        self,
+        call: u8,
+        opcode: u8,
+        a: u16,
+        b: u32,
+        c: u8,
+        kwnames: &[u16],
+        code: &mut [u8],
+        locations: &mut [u32],
+    ) -> Answer
+        ensures { λ r. ⌜ outcome r (now (code .exit)) (now (locations .exit))
+            ≡ numberedOf self call opcode a b c (now (kwnames .entry)) (now (code .entry)) (now (locations .entry)) ⌝ }
+    {
+        let names = names::count_byte(kwnames.len());
+        let instruction = numbered::of_call(call, opcode, a, b, c, names);
+        let Instruction::Is(chosen, name, operand) = instruction else {
+            return Answer::Refused(Refusal::WrongShape);
+        };
+        emission::emit_with_names(self, chosen, name, operand, kwnames, code, locations)
     }
 
     // Adds a constant, and answers its index.

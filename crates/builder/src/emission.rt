@@ -1,7 +1,7 @@
 // The one way in which instructions are emitted: decide, then commit.
 ghost use Prim.Native.Nat.{_≤_, _+_};
 ghost use Rattle.code.specs.Tables.{codeLimit};
-ghost use Rattle.builder.specs.Emission.{coreOutcome, coreWith, emitCore, emitNamed, emitOf, outcome};
+ghost use Rattle.builder.specs.Emission.{coreOutcome, coreWith, emitCore, emitNamed, outcome};
 ghost use Rattle.builder.specs.Inner.{Committed, Goes};
 ghost use lib.ListN.{length};
 ghost use mathlib.Core.List.{[]};
@@ -97,25 +97,35 @@ fn emit_core(
 }
 
 // Emits an instruction with its keyword names, records its location and follows the depth. In dead code nothing
-// changes.
+// changes. `name` is the name in the operand, 0 without one.
 pub fn emit_with_names(
     b: Builder,
     opcode: u8,
+    name: u32,
     operand: Operand,
     kwnames: &[u16],
     code: &mut [u8],
     locations: &mut [u32],
 ) -> Answer
     ensures { λ r. ⌜ outcome r (now (code .exit)) (now (locations .exit))
-        ≡ emitOf b opcode operand (now (kwnames .entry)) (now (code .entry)) (now (locations .entry)) ⌝ }
+        ≡ emitNamed b opcode name operand (now (kwnames .entry)) (now (code .entry)) (now (locations .entry)) ⌝ }
 {
     let core = b.core;
     let location = b.location;
-    let answer = emit_core(core, location, opcode, 0, operand, kwnames, code, locations);
+    let answer = emit_core(
+        core,
+        location,
+        opcode,
+        name,
+        operand,
+        kwnames,
+        code,
+        locations,
+    );
     state::answer_by(b, answer)
 }
 
-// The same of an instruction that has none. `name` is the name in the operand, 0 without one.
+// The same of an instruction that has no keyword names.
 pub fn emit_with_operand(
     b: Builder,
     opcode: u8,

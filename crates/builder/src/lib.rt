@@ -4,7 +4,7 @@ use code::CodeRange;
 use code::Focus;
 use op::Refusal;
 
-// The front door: the 33 public calls.
+// The front door: the 33 public calls, and the one that makes an emitting call by its number.
 mod calls;
 
 // The order of the refusals, decided on numbers alone.
@@ -22,6 +22,7 @@ mod exceptions;
 mod locations;
 mod marks;
 mod names;
+mod numbered;
 mod regions;
 mod state;
 mod tables;

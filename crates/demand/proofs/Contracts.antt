@@ -5,7 +5,7 @@ use mathlib.Core.List.{List}
 use Prim.Native.Nat.{ℕ}
 use Rattle.demand.specs.History.{Given}
 use Rattle.demand.specs.Calls.{emit′, emit-u8, emit-i8, emit-u8-u8, emit-u16, emit-u16-u16, emit-u16-u8, emit-u16-u8-u8, emit-call-builtin-function, emit-call-builtin-type}
-use Rattle.demand.specs.Calls.{emit-call-function-kw, emit-call-attr-kw, emit-raise-unbound-local, emit-load-global-callable, emit-name-op, emit-load-local, emit-store-local}
+use Rattle.demand.specs.Calls.{emit-call-function-kw, emit-call-attr-kw, emit-raise-unbound-local, emit-load-global-callable, emit-name-op, emit-load-local, emit-store-local, emit-numbered}
 use Rattle.demand.specs.Calls.{emit-jump, emit-jump-to, current-jump-target, patch-jump, new-code-region, add-const, add-exception-entry, register-local-names, register-local-name, build}
 use Rattle.demand.specs.Calls.{set-location, current-offset, current-position, stack-depth, is-dead, PublicCall}
 use Rattle.demand.specs.World.{World, world, Lent, Holds, By, Made}
@@ -56,6 +56,8 @@ made-step (emit-load-global-callable slot name) w w′ g m = by-step (emit-load-
 made-step (emit-name-op k slot name flags) w w′ g m = by-step (emit-name-op k slot name flags) m (ap (emits (lent m)) (m .keeps))
 made-step (emit-load-local slot) w w′ g m = by-step (emit-load-local slot) m (ap (emits (lent m)) (m .keeps))
 made-step (emit-store-local slot) w w′ g m = by-step (emit-store-local slot) m (ap (emits (lent m)) (m .keeps))
+made-step (emit-numbered call k a b c ns) w w′ g m =
+    rw (m .0 .holds) at (by-step (emit-numbered call k a b c (m .0 .slice .now)) (m .1) (ap (emits (lent (m .1))) (m .1 .keeps)))
 made-step (emit-jump k) w w′ g m = by-step (emit-jump k) m (ap (jumps (lent m)) (m .keeps))
 made-step (emit-jump-to k aim) w w′ g m = by-step (emit-jump-to k aim) m (ap (emits (lent m)) (m .keeps))
 made-step current-jump-target w w′ g m = by-step current-jump-target m (ap (targets (lent m)) (m .keeps))

@@ -17,6 +17,7 @@ pub mod Ties
 pub mod Within
 pub mod Model
 pub mod Contracts
+pub mod Numbering
 pub mod Steps
 pub mod Refusing
 pub mod Pairs

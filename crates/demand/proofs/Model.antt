@@ -10,6 +10,7 @@ use Rattle.builder.specs.declared.Builder.{Builder}
 use Rattle.builder.specs.declared.Location.the-variants.{Set}
 use Rattle.builder.specs.Emission.{loadOp, loadOperand, storeOp, storeOperand}
 use Rattle.builder.specs.Emission.{Outcome, emitNamed, emitOf}
+use Rattle.builder.specs.Numbered.{numberedOf}
 use Rattle.builder.specs.Forward.{JumpOutcome, emitJumpOf}
 use Rattle.builder.specs.Back.{emitJumpToOf}
 use Rattle.builder.specs.Marks.{TargetOutcome, targetOf}
@@ -22,7 +23,7 @@ use Rattle.builder.specs.Names.{registerNamesOf, registerNameOf, buildOf}
 use Rattle.builder.specs.Locations.{withLocation}
 use Rattle.demand.specs.History.{Given, ok}
 use Rattle.demand.specs.Calls.{emit′, emit-u8, emit-i8, emit-u8-u8, emit-u16, emit-u16-u16, emit-u16-u8, emit-u16-u8-u8, emit-call-builtin-function, emit-call-builtin-type}
-use Rattle.demand.specs.Calls.{emit-call-function-kw, emit-call-attr-kw, emit-raise-unbound-local, emit-load-global-callable, emit-name-op, emit-load-local, emit-store-local}
+use Rattle.demand.specs.Calls.{emit-call-function-kw, emit-call-attr-kw, emit-raise-unbound-local, emit-load-global-callable, emit-name-op, emit-load-local, emit-store-local, emit-numbered}
 use Rattle.demand.specs.Calls.{emit-jump, emit-jump-to, current-jump-target, patch-jump, new-code-region, add-const, add-exception-entry, register-local-names, register-local-name, build}
 use Rattle.demand.specs.Calls.{set-location, current-offset, current-position, stack-depth, is-dead, PublicCall}
 use Rattle.demand.specs.World.{World, world, given, after, givenJump, afterJump, givenTarget, afterTarget, givenConst, afterConst}
@@ -116,6 +117,7 @@ step (emit-load-global-callable slot name) w = emits w (emitNamed (w .state) Loa
 step (emit-name-op k slot name flags) w = emits w (emitNamed (w .state) k name (O.U16U16U8 slot (name % 65536) flags) [] (w .code) (w .locations))
 step (emit-load-local slot) w = emits w (emitOf (w .state) (loadOp slot) (loadOperand slot) [] (w .code) (w .locations))
 step (emit-store-local slot) w = emits w (emitOf (w .state) (storeOp slot) (storeOperand slot) [] (w .code) (w .locations))
+step (emit-numbered call k a b c ns) w = emits w (numberedOf (w .state) call k a b c ns (w .code) (w .locations))
 step (emit-jump k) w = jumps w (emitJumpOf (w .state) k (w .code) (w .locations) (w .marks))
 step (emit-jump-to k t) w = emits w (emitJumpToOf (w .state) k t (w .code) (w .locations) (w .marks))
 step current-jump-target w = targets w (targetOf (w .state) (w .marks))

@@ -12,6 +12,7 @@ use Rattle.op.specs.declared.Operand.the-variants as O
 use Rattle.op.specs.declared.Refusal.{Refusal}
 use Rattle.builder.specs.Emission.{loadOp, loadOperand, storeOp, storeOperand}
 use Rattle.builder.specs.Emission.{Outcome, emitNamed}
+use Rattle.builder.specs.Numbered.{emitInstruction, instructionOf, numberedOf}
 use Rattle.builder.specs.Forward.{emitJumpOf}
 use Rattle.builder.specs.Back.{emitJumpToOf}
 use Rattle.builder.specs.Marks.{targetOf}
@@ -25,13 +26,15 @@ use Rattle.builder.specs.declared.Added.{Added}
 use Rattle.builder.specs.declared.Added.the-variants as N
 use Rattle.builder.specs.declared.Answer.{Answer}
 use Rattle.builder.specs.declared.Answer.the-variants as R
+use Rattle.builder.specs.declared.numbered.Instruction.{Instruction}
+use Rattle.builder.specs.declared.numbered.Instruction.the-variants as I
 use Rattle.builder.specs.declared.Jumped.{Jumped}
 use Rattle.builder.specs.declared.Jumped.the-variants as J
 use Rattle.builder.specs.declared.Targeted.{Targeted}
 use Rattle.builder.specs.declared.Targeted.the-variants as G
 use Rattle.demand.specs.History.{no}
 use Rattle.demand.specs.Calls.{emit′, emit-u8, emit-i8, emit-u8-u8, emit-u16, emit-u16-u16, emit-u16-u8, emit-u16-u8-u8, emit-call-builtin-function, emit-call-builtin-type}
-use Rattle.demand.specs.Calls.{emit-call-function-kw, emit-call-attr-kw, emit-raise-unbound-local, emit-load-global-callable, emit-name-op, emit-load-local, emit-store-local}
+use Rattle.demand.specs.Calls.{emit-call-function-kw, emit-call-attr-kw, emit-raise-unbound-local, emit-load-global-callable, emit-name-op, emit-load-local, emit-store-local, emit-numbered}
 use Rattle.demand.specs.Calls.{emit-jump, emit-jump-to, current-jump-target, patch-jump, new-code-region, add-const, add-exception-entry, register-local-names, register-local-name, build}
 use Rattle.demand.specs.Calls.{set-location, current-offset, current-position, stack-depth, is-dead}
 use Rattle.demand.specs.Calls.{PublicCall}
@@ -39,6 +42,7 @@ use Rattle.demand.specs.World.{World, given, givenJump, givenTarget, giv
 use Rattle.demand.specs.Refused.{RefusedSame, NewRefused}
 use Rattle.demand.proofs.Model.{Turn, emits, step}
 use Rattle.demand.proofs.Contracts.{made-step}
+use Rattle.demand.proofs.Numbering.{numbered-is}
 use Rattle.demand.proofs.Keeping.{emit-refused, jump-refused, to-refused, patch-refused, target-refused, region-refused, exception-refused, names-refused, name-refused, build-refused, const-refused}
 use Rattle.demand.proofs.Keeping.{new-kept}
 
@@ -67,6 +71,12 @@ module _ (r : Refusal) where
         → emits w (emitNamed (w .state) k name o ns (w .code) (w .locations)) .left ≡ w
     emission-same k name o ns e = emit-same (emitNamed (w .state) k name o ns (w .code) (w .locations)) e (emit-refused (w .state) r k name o ns (w .code) (w .locations))
 
+    numbered-same : (ns : List ℕ) (i : Instruction)
+        → given (emitInstruction i (w .state) ns (w .code) (w .locations) .answer) ≡ no r
+        → emits w (emitInstruction i (w .state) ns (w .code) (w .locations)) .left ≡ w
+    numbered-same ns I.Nothing e = refl
+    numbered-same ns (I.Is k name o) e = emission-same k name o ns e
+
     step-same : (c : PublicCall) → step c w .answer ≡ no r → step c w .left ≡ w
     step-same (emit′ k) e = emission-same k 0 O.None [] e
     step-same (emit-u8 k a) e = emission-same k 0 (O.U8 a) [] e
@@ -85,6 +95,11 @@ module _ (r : Refusal) where
     step-same (emit-name-op k slot name flags) e = emission-same k name (O.U16U16U8 slot (name % 65536) flags) [] e
     step-same (emit-load-local slot) e = emission-same (loadOp slot) 0 (loadOperand slot) [] e
     step-same (emit-store-local slot) e = emission-same (storeOp slot) 0 (storeOperand slot) [] e
+    step-same (emit-numbered call k a b c ns) e =
+        let same : numberedOf (w .state) call k a b c ns (w .code) (w .locations)
+        ≡ emitInstruction (instructionOf call k a b c (length ns % 256)) (w .state) ns (w .code) (w .locations)
+        = numbered-is (w .state) call k a b c ns (w .code) (w .locations) in
+        rw same (numbered-same ns (instructionOf call k a b c (length ns % 256)) (rw same at e))
     step-same (emit-jump k) e =
         let a = by-jump (emitJumpOf (w .state) k (w .code) (w .locations) (w .marks) .answer) e in
         let q = jump-refused (w .state) r k (w .code) (w .locations) (w .marks) a in

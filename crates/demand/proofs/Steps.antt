@@ -1,23 +1,21 @@
 -- Each public call, made as its promise says: it moves the view, and keeps the used parts within the tables.
 -- Assumes nothing.
 use mathlib.Core.Path.{_≡_, refl}
-use mathlib.Core.Bool.{Bool, true, false}
-use mathlib.Core.List.{List, [], _∷_}
-use Prim.Native.Nat.{ℕ, zero, suc, _*_, _%_, _≤_, _<_}
+use mathlib.Core.List.{List, []}
+use Prim.Native.Nat.{ℕ, _*_, _%_, _≤_}
 use native.Mathlib.Omega.{arith}
-use lib.Dec.{leb}
 use lib.ListN.{length}
-use borrow.Author.Tests.{lt-leb, ne-eqb}
-use Rattle.op.specs.Choice.{pick}
-use Rattle.op.specs.Chosen.{LoadLocal, LoadLocalW, StoreLocal, StoreLocalW}
 use Rattle.op.specs.Chosen.{LoadGlobalCallable, CallBuiltinFunction, CallBuiltinType, CallFunctionKw, CallAttrKw}
 use Rattle.op.specs.Opcodes.{RaiseUnboundLocal}
 use Rattle.op.specs.declared.Operand.{Operand}
 use Rattle.op.specs.declared.Operand.the-variants as O
-use Rattle.code.specs.Encode.{SignsFit}
+use Rattle.op.specs.declared.Refusal.the-variants.{WrongShape}
 use Rattle.code.specs.Tables.{startCells}
 use Rattle.builder.specs.Emission.{loadOp, loadOperand, storeOp, storeOperand}
 use Rattle.builder.specs.Emission.{emitNamed}
+use Rattle.builder.specs.Numbered.{emitInstruction, instructionOf}
+use Rattle.builder.specs.declared.numbered.Instruction.{Instruction}
+use Rattle.builder.specs.declared.numbered.Instruction.the-variants as I
 use Rattle.builder.specs.State.{Kept}
 use Rattle.builder.specs.Constants.{addConstOf}
 use Rattle.builder.specs.Exceptions.{addExceptionOf}
@@ -29,16 +27,16 @@ use Rattle.builder.specs.declared.Answer.{Answer}
 use Rattle.builder.specs.declared.Answer.the-variants as R
 use Rattle.builder.specs.declared.Builder.{Builder}
 use Rattle.builder.specs.declared.Location.the-variants.{Set}
-use Rattle.demand.specs.History.{Call, emit, other, Given, ok}
+use Rattle.demand.specs.History.{Call, emit, other, Given, no, ok}
 use Rattle.demand.specs.Calls.{emit′, emit-u8, emit-i8, emit-u8-u8, emit-u16, emit-u16-u16, emit-u16-u8, emit-u16-u8-u8, emit-call-builtin-function, emit-call-builtin-type}
-use Rattle.demand.specs.Calls.{emit-call-function-kw, emit-call-attr-kw, emit-raise-unbound-local, emit-load-global-callable, emit-name-op, emit-load-local, emit-store-local}
+use Rattle.demand.specs.Calls.{emit-call-function-kw, emit-call-attr-kw, emit-raise-unbound-local, emit-load-global-callable, emit-name-op, emit-load-local, emit-store-local, emit-numbered}
 use Rattle.demand.specs.Calls.{emit-jump, emit-jump-to, current-jump-target, patch-jump, new-code-region, add-const, add-exception-entry, register-local-names, register-local-name, build}
 use Rattle.demand.specs.Calls.{set-location, current-offset, current-position, stack-depth, is-dead}
-use Rattle.demand.specs.Calls.{PublicCall, loads, stores, kindOf}
+use Rattle.demand.specs.Calls.{PublicCall, kindOf}
 use Rattle.demand.specs.World.{World, world, given, after, givenConst, afterConst, Run, Taken, none, then}
 use Rattle.demand.proofs.Model.{Turn, turn, emits, step}
 use Rattle.demand.proofs.Contracts.{made-step}
-use Rattle.demand.proofs.Machining.{Still}
+use Rattle.demand.proofs.Numbering.{kindBy, load-kind, numbered-is, numbered-kind, numbered-sane, sane-load, sane-store, store-kind}
 use Rattle.demand.proofs.View.{View, viewOf, Moved, refused, idle}
 use Rattle.demand.proofs.Views.{emit-moves, jump-moves, to-moves, patch-moves, target-moves, region-moves}
 use Rattle.demand.proofs.Held.{emit-held, jump-held, to-held, patch-held}
@@ -48,52 +46,6 @@ use Rattle.demand.proofs.Within.{emit-starts, to-starts, jump-starts, p
 use Rattle.demand.proofs.Ties.{Tied, Sane, moved-tied}
 
 -- what the calls emit: signed numbers in their range, and no jumps
-
-abbrev SaneOperand : Operand → Type 0
-SaneOperand o = SignsFit o × Still o
-
-sane-pick : (t : Bool) (x y : Operand) → SaneOperand x → SaneOperand y → SaneOperand (pick t x y)
-sane-pick true x y p q = p
-sane-pick false x y p q = q
-
-sane-store : (slot : ℕ) → SaneOperand (storeOperand slot)
-sane-store slot = sane-pick (leb slot 255) (O.U8 slot) (O.U16 slot) (tt, λ n e. refl) (tt, λ n e. refl)
-
-sane-load : (slot : ℕ) → SaneOperand (loadOperand slot)
-sane-load slot = sane-pick (leb slot 3) O.None (storeOperand slot) (tt, λ n e. refl) (sane-store slot)
-
--- the model's choices are the history's
-
-wide-load : (slot : ℕ) → 3 < slot → loads slot ≡ emit (loadOp slot) (loadOperand slot) []
-wide-load slot h =
-    rw (
-      ne-eqb slot 0 (λ e. omega arith),
-      ne-eqb slot 1 (λ e. omega arith),
-      ne-eqb slot 2 (λ e. omega arith),
-      ne-eqb slot 3 (λ e. omega arith),
-      lt-leb slot 3 h,
-    ) (go (leb slot 255))
-  where
-    go : (t : Bool) → pick t (emit LoadLocal (O.U8 slot) []) (emit LoadLocalW (O.U16 slot) [])
-        ≡ emit (pick t LoadLocal LoadLocalW) (pick t (O.U8 slot) (O.U16 slot)) []
-    go true = refl
-    go false = refl
-
-pub load-kind : (slot : ℕ) → loads slot ≡ emit (loadOp slot) (loadOperand slot) []
-load-kind zero = refl
-load-kind (suc zero) = refl
-load-kind (suc (suc zero)) = refl
-load-kind (suc (suc (suc zero))) = refl
-load-kind (suc (suc (suc (suc n)))) = wide-load (suc (suc (suc (suc n)))) (omega arith)
-
-pub store-kind : (slot : ℕ) → stores slot ≡ emit (storeOp slot) (storeOperand slot) []
-store-kind slot = go (leb slot 255)
-  where
-    go : (t : Bool) → pick t (emit StoreLocal (O.U8 slot) []) (emit StoreLocalW (O.U16 slot) [])
-        ≡ emit (pick t StoreLocal StoreLocalW) (pick t (O.U8 slot) (O.U16 slot)) []
-    go true = refl
-    go false = refl
-
 pub sane : (c : PublicCall) → Sane (kindOf c)
 sane (emit′ k) = (tt, λ n e. refl)
 sane (emit-u8 k a) = (tt, λ n e. refl)
@@ -112,6 +64,7 @@ sane (emit-load-global-callable slot name) = (tt, λ n e. refl)
 sane (emit-name-op k slot name flags) = (tt, λ n e. refl)
 sane (emit-load-local slot) = rw (load-kind slot) (sane-load slot)
 sane (emit-store-local slot) = rw (store-kind slot) (sane-store slot)
+sane (emit-numbered call k a b c ns) = numbered-sane call k a b c ns
 sane (emit-jump k) = tt
 sane (emit-jump-to k t) = tt
 sane current-jump-target = tt
@@ -172,6 +125,13 @@ module _ (w : World) (h : Within w) where
   keeps : (x : Kept) (l e k ns : List ℕ) → SameCore (w .state) x → Moving w other (turn (world (after (x .answer) (w .state)) (w .code) l e k ns (w .marks) (w .starts)) (given (x .answer)))
   keeps x l e k ns s = stays (after (x .answer) (w .state)) (given (x .answer)) l e k ns (same-after (w .state) x s) (given-idle (x .answer))
 
+  -- the instruction that a number comes to
+  numbered : (ns : List ℕ) (i : Instruction)
+      → Moving w (kindBy ns i) (emits w (emitInstruction i (w .state) ns (w .code) (w .locations)))
+  numbered ns I.Nothing =
+      stays (w .state) (no WrongShape) (w .locations) (w .exceptions) (w .constants) (w .names) (refl, refl) (λ v. refused)
+  numbered ns (I.Is k name o) = emission k name o ns
+
   pub moving : (c : PublicCall) → Moving w (kindOf c) (step c w)
   moving (emit′ k) = emission k 0 O.None []
   moving (emit-u8 k a) = emission k 0 (O.U8 a) []
@@ -190,6 +150,9 @@ module _ (w : World) (h : Within w) where
   moving (emit-name-op k slot name flags) = emission k name (O.U16U16U8 slot (name % 65536) flags) []
   moving (emit-load-local slot) = rw (load-kind slot) (emission (loadOp slot) 0 (loadOperand slot) [])
   moving (emit-store-local slot) = rw (store-kind slot) (emission (storeOp slot) 0 (storeOperand slot) [])
+  moving (emit-numbered call k a b c ns) =
+      rw (numbered-kind call k a b c ns, numbered-is (w .state) call k a b c ns (w .code) (w .locations))
+      (numbered ns (instructionOf call k a b c (length ns % 256)))
   moving (emit-jump k) = record {
     moves = jump-moves (w .state) k (w .code) (w .locations) (w .marks) (w .starts);
     within = record {

@@ -1,16 +1,17 @@
 -- The public calls of the builder with their arguments, and what the history takes them for.
 -- Assumes nothing.
-use mathlib.Core.List.{List, []}
+use mathlib.Core.List.{List, [], _∷_}
 use Prim.Native.Nat.{ℕ, _<_, _%_}
-use lib.Dec.{leb, eqb}
+use lib.Dec.{leb, ltb, eqb}
 use lib.IntN.{ℤ}
-use lib.ListN.{length}
+use lib.ListN.{getD, length}
 use lib.Signed.{mag}
 use Rattle.op.specs.Choice.{pick}
 use Rattle.op.specs.Chosen.{LoadLocal0, LoadLocal1, LoadLocal2, LoadLocal3, LoadLocal, LoadLocalW, StoreLocal, StoreLocalW}
 use Rattle.op.specs.Chosen.{LoadGlobalCallable, CallBuiltinFunction, CallBuiltinType, CallFunctionKw, CallAttrKw}
 use Rattle.op.specs.Opcodes.{RaiseUnboundLocal}
 use Rattle.op.specs.declared.Operand.the-variants as O
+use Rattle.code.specs.Bytes.{signed}
 use Rattle.code.specs.declared.CodeRange.{CodeRange}
 use Rattle.code.specs.declared.Focus.{Focus}
 use Rattle.code.specs.declared.HandlerKind.{HandlerKind}
@@ -26,7 +27,7 @@ I8 z = mag z < 128
 abbrev pub U16 : ℕ → Type 0
 U16 n = n < 65536
 
--- the public calls, but for `new`, with their arguments in the order of the Rust. Two carry the range that their type gives: a signed
+-- the public calls, but for `new`, with their arguments in the order of the Rust, and the one by number. Two carry the range that their type gives: a signed
 -- operand and a region's depth. Of the others the demand holds for any numbers
 pub data PublicCall : Type 0 where
   emit′ : (opcode : ℕ) → PublicCall
@@ -46,6 +47,7 @@ pub data PublicCall : Type 0 where
   emit-name-op : (opcode slot name flags : ℕ) → PublicCall
   emit-load-local : (slot : ℕ) → PublicCall
   emit-store-local : (slot : ℕ) → PublicCall
+  emit-numbered : (call opcode a b c : ℕ) (kwnames : List ℕ) → PublicCall
   emit-jump : (opcode : ℕ) → PublicCall
   emit-jump-to : (opcode : ℕ) (target : JumpTarget) → PublicCall
   current-jump-target : PublicCall
@@ -76,6 +78,42 @@ loads slot =
 abbrev pub stores : ℕ → Call
 stores slot = pick (leb slot 255) (emit StoreLocal (O.U8 slot) []) (emit StoreLocalW (O.U16 slot) [])
 
+-- the calls by number, from 0 on, on numbers as C gives them and `n` keyword names; where one is too large for its field
+-- nothing is emitted
+
+abbrev pub fitting : (limit number : ℕ) → Call → Call
+fitting limit number call = pick (ltb number limit) call other
+
+abbrev pub byNumber : (opcode a b c n : ℕ) → List Call
+byNumber k a b c n =
+    emit k O.None [] ∷  -- 0 emit
+    fitting 256 a (emit k (O.U8 a) []) ∷  -- 1 emit_u8
+    fitting 256 a (emit k (O.I8 (signed 256 a)) []) ∷  -- 2 emit_i8
+    fitting 256 a (fitting 256 b (emit k (O.U8U8 a b) [])) ∷  -- 3 emit_u8_u8
+    emit k (O.U16 a) [] ∷  -- 4 emit_u16
+    fitting 65536 b (emit k (O.U16U16 a b) []) ∷  -- 5 emit_u16_u16
+    fitting 256 b (emit k (O.U16U8 a b) []) ∷  -- 6 emit_u16_u8
+    fitting 256 b (emit k (O.U16U8U8 a b c) []) ∷  -- 7 emit_u16_u8_u8
+    fitting 256 a (fitting 256 b (emit CallBuiltinFunction (O.U8U8 a b) [])) ∷  -- 8 emit_call_builtin_function
+    fitting 256 a (fitting 256 b (emit CallBuiltinType (O.U8U8 a b) [])) ∷  -- 9 emit_call_builtin_type
+    fitting 256 a (emit CallFunctionKw (O.CallKw a n) []) ∷  -- 10 emit_call_function_kw
+    fitting 256 b (emit CallAttrKw (O.CallAttrKw a b n) []) ∷  -- 11 emit_call_attr_kw
+    emit RaiseUnboundLocal (O.U16 (b % 65536)) [] ∷  -- 12 emit_raise_unbound_local
+    emit LoadGlobalCallable (O.U16U16 a (b % 65536)) [] ∷  -- 13 emit_load_global_callable
+    emit k (O.U16U16U8 a (b % 65536) c) [] ∷  -- 14 emit_name_op
+    loads a ∷  -- 15 emit_load_local
+    stores a ∷ []  -- 16 emit_store_local
+
+-- the same call with the keyword names that are lent
+abbrev pub naming : List ℕ → Call → Call
+naming ns (emit k o none) = emit k o ns
+naming ns (emitJump k) = emitJump k
+naming ns (emitJumpTo k t) = emitJumpTo k t
+naming ns (patchJump l) = patchJump l
+naming ns jumpTarget = jumpTarget
+naming ns (newRegion d) = newRegion d
+naming ns other = other
+
 -- what the history takes each call for: written apart from the builder's definitions, so that the two are held together by proof
 abbrev pub kindOf : PublicCall → Call
 kindOf (emit′ k) = emit k O.None []
@@ -95,6 +133,7 @@ kindOf (emit-load-global-callable slot name) = emit LoadGlobalCallable (O.U16U16
 kindOf (emit-name-op k slot name flags) = emit k (O.U16U16U8 slot (name % 65536) flags) []
 kindOf (emit-load-local slot) = loads slot
 kindOf (emit-store-local slot) = stores slot
+kindOf (emit-numbered call k a b c ns) = naming ns (getD (byNumber k a b c (length ns % 256)) call other)
 kindOf (emit-jump k) = emitJump k
 kindOf (emit-jump-to k t) = emitJumpTo k t
 kindOf current-jump-target = jumpTarget

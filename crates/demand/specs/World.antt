@@ -32,6 +32,7 @@ use Rattle.builder.proofs.Builder.emit_load_global_callable.Reads.{Learnt as em
 use Rattle.builder.proofs.Builder.emit_name_op.Reads.{Learnt as emit-name-op-says}
 use Rattle.builder.proofs.Builder.emit_load_local.Reads.{Learnt as emit-load-local-says}
 use Rattle.builder.proofs.Builder.emit_store_local.Reads.{Learnt as emit-store-local-says}
+use Rattle.builder.proofs.Builder.emit_numbered.Reads.{Learnt as emit-numbered-says}
 use Rattle.builder.proofs.Builder.emit_jump.Reads.{Learnt as emit-jump-says}
 use Rattle.builder.proofs.Builder.emit_jump_to.Reads.{Learnt as emit-jump-to-says}
 use Rattle.builder.proofs.Builder.current_jump_target.Reads.{Learnt as current-jump-target-says}
@@ -49,7 +50,7 @@ use Rattle.builder.proofs.Builder.stack_depth.Reads.{Learnt as stack-depth-says
 use Rattle.builder.proofs.Builder.is_dead.Reads.{Learnt as is-dead-says}
 use Rattle.demand.specs.History.{Given, no, ok, label, target, History, seen}
 use Rattle.demand.specs.Calls.{emit′, emit-u8, emit-i8, emit-u8-u8, emit-u16, emit-u16-u16, emit-u16-u8, emit-u16-u8-u8, emit-call-builtin-function, emit-call-builtin-type}
-use Rattle.demand.specs.Calls.{emit-call-function-kw, emit-call-attr-kw, emit-raise-unbound-local, emit-load-global-callable, emit-name-op, emit-load-local, emit-store-local}
+use Rattle.demand.specs.Calls.{emit-call-function-kw, emit-call-attr-kw, emit-raise-unbound-local, emit-load-global-callable, emit-name-op, emit-load-local, emit-store-local, emit-numbered}
 use Rattle.demand.specs.Calls.{emit-jump, emit-jump-to, current-jump-target, patch-jump, new-code-region, add-const, add-exception-entry, register-local-names, register-local-name, build}
 use Rattle.demand.specs.Calls.{set-location, current-offset, current-position, stack-depth, is-dead, PublicCall, kindOf}
 
@@ -232,6 +233,11 @@ Made (emit-load-local slot) w =
     By emit-load-local-says (λ t. (w .state, (slot, (t .code, (t .locations, tt))))) given emission w
 Made (emit-store-local slot) w =
     By emit-store-local-says (λ t. (w .state, (slot, (t .code, (t .locations, tt))))) given emission w
+Made (emit-numbered call k a b c ns) w =
+    λ g w′. (names : Holding ns)
+    × By emit-numbered-says
+    (λ t. (w .state, (call, (k, (a, (b, (c, (names .slice, (t .code, (t .locations, tt))))))))))
+    given emission w g w′
 Made (emit-jump k) w =
     By emit-jump-says (λ t. (w .state, (k, (t .code, (t .locations, (t .marks, tt)))))) givenJump labelling w
 Made (emit-jump-to k aim) w =

@@ -1,0 +1,18 @@
+-- `builder::numbered::byte` meets its contract: its test is the definition's.
+-- Assumes nothing.
+use borrow.Author.Tests.{lt-ltb, le-ltb}
+use borrow.Author.Needs.{needs}
+use Rattle.builder.proofs.numbered.byte.Statement.{statement}
+use Rattle.builder.proofs.numbered.byte.Tie as tie
+
+cast-t4 : tie.Need-cast-t4
+cast-t4 c = search needs
+
+returns : tie.Need-returns
+returns c = simp (lt-ltb _ _ (c .if1 .taken))
+
+returns-2 : tie.Need-returns-2
+returns-2 c = simp (le-ltb _ _ (c .if1 .left))
+
+pub byte-spec : {M : Type 1} → statement M
+byte-spec = tie.close (tie.spec cast-t4 returns returns-2)

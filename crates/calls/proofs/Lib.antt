@@ -1,0 +1,4 @@
+pub mod Held
+pub mod Leaving
+pub mod Looking
+pub mod Back

@@ -1,0 +1,73 @@
+-- `calls::tfb_current_jump_target` meets its contract: no state, or what the builder's call leaves.
+-- Assumes nothing.
+use mathlib.Core.Path.{sym, _∙_}
+use Rattle.calls.specs.Exports.{currentJumpTargetIn}
+use Rattle.calls.proofs.Held.{enough}
+use Rattle.calls.proofs.Leaving.{target-none, target-goes}
+use borrow.Author.Needs.{needs}
+use Rattle.calls.proofs.tfb_current_jump_target.Statement.{statement}
+use Rattle.calls.proofs.tfb_current_jump_target.Tie as tie
+
+state-in-requires : tie.Need-state-in-requires
+state-in-requires c κs = search needs
+
+enum-known-held : tie.Need-enum-known-held
+enum-known-held c = search needs
+
+enum-told : tie.Need-enum-told
+enum-told c = search needs
+
+answer-requires : tie.Need-answer-requires
+answer-requires c κs = search needs
+
+same-length : tie.Need-same-length
+same-length c = search needs
+
+returns : tie.Need-returns
+unfolding currentJumpTargetIn
+returns c =
+    let after-state-in = c .before .before .before in
+    target-none _ _ _ _ _ (sym (after-state-in .state-in .ensures) ∙ c .before .enum-told .given .1)
+    (c .answer .ensures)
+
+current-jump-target-requires : tie.Need-current-jump-target-requires
+current-jump-target-requires c κs = search needs
+
+leave-targeted-requires : tie.Need-leave-targeted-requires
+leave-targeted-requires c κs =
+    let after-held = c .before .before .before .before .before .before in
+    let after-state-in = after-held .before .before in
+    let start = after-state-in .before .before .before .before in
+    enough (start .args .state .now) _ (sym (after-state-in .state-in .ensures) ∙ after-held .held .given .1)
+
+same-length-2 : tie.Need-same-length-2
+same-length-2 c = search needs
+
+same-length-3 : tie.Need-same-length-3
+same-length-3 c = search needs
+
+returns-2 : tie.Need-returns-2
+unfolding currentJumpTargetIn
+returns-2 c =
+    let after-leave-targeted = c .before .before in
+    let after-current-jump-target = after-leave-targeted .before .before .before .before in
+    let after-held = after-current-jump-target .before .before .before in
+    let after-state-in = after-held .before .before in
+    target-goes _ _ _ _ _ _ _ _ _ (sym (after-state-in .state-in .ensures) ∙ after-held .held .given .1)
+    (after-current-jump-target .current-jump-target .ensures) (after-leave-targeted .leave-targeted .ensures)
+
+pub tfb-current-jump-target-spec : {M : Type 1} → statement M
+tfb-current-jump-target-spec =
+    tie.close
+    (tie.spec
+    state-in-requires
+    enum-known-held
+    enum-told
+    answer-requires
+    same-length
+    returns
+    current-jump-target-requires
+    leave-targeted-requires
+    same-length-2
+    same-length-3
+    returns-2)

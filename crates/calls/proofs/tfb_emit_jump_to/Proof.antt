@@ -1,0 +1,84 @@
+-- `calls::tfb_emit_jump_to` meets its contract: no state, or what the builder's call leaves.
+-- Assumes nothing.
+use mathlib.Core.Path.{sym, _∙_}
+use Rattle.calls.specs.Exports.{emitJumpToIn}
+use Rattle.calls.proofs.Held.{enough}
+use Rattle.calls.proofs.Leaving.{emit-none, emit-goes}
+use borrow.Author.Needs.{needs}
+use Rattle.calls.proofs.tfb_emit_jump_to.Statement.{statement}
+use Rattle.calls.proofs.tfb_emit_jump_to.Tie as tie
+
+state-in-requires : tie.Need-state-in-requires
+state-in-requires c κs = search needs
+
+enum-known-held : tie.Need-enum-known-held
+enum-known-held c = search needs
+
+enum-told : tie.Need-enum-told
+enum-told c = search needs
+
+answer-requires : tie.Need-answer-requires
+answer-requires c κs = search needs
+
+same-length : tie.Need-same-length
+same-length c = search needs
+
+returns : tie.Need-returns
+unfolding emitJumpToIn
+returns c =
+    let after-state-in = c .before .before .before in
+    emit-none _ _ _ _ _ _ (sym (after-state-in .state-in .ensures) ∙ c .before .enum-told .given .1)
+    (c .answer .ensures)
+
+target-in-requires : tie.Need-target-in-requires
+target-in-requires c κs = search needs
+
+emit-jump-to-requires : tie.Need-emit-jump-to-requires
+emit-jump-to-requires c κs = search needs
+
+leave-core-requires : tie.Need-leave-core-requires
+leave-core-requires c κs =
+    let after-emit-jump-to = c .before .before .before .before .before in
+    let after-held = after-emit-jump-to .before .before .before .before .before in
+    let after-state-in = after-held .before .before in
+    let start = after-state-in .before .before .before .before .before .before in
+    enough (start .args .state .now) _ (sym (after-state-in .state-in .ensures) ∙ after-held .held .given .1)
+
+same-length-2 : tie.Need-same-length-2
+same-length-2 c = search needs
+
+same-length-3 : tie.Need-same-length-3
+same-length-3 c = search needs
+
+same-length-4 : tie.Need-same-length-4
+same-length-4 c = search needs
+
+returns-2 : tie.Need-returns-2
+unfolding emitJumpToIn
+returns-2 c =
+    let after-leave-core = c .before .before in
+    let after-emit-jump-to = after-leave-core .before .before .before .before .before .before in
+    let after-target-in = after-emit-jump-to .before .before .before in
+    let after-held = after-target-in .before .before in
+    let after-state-in = after-held .before .before in
+    emit-goes _ _ _ _ _ _ _ _ _ _ _ (sym (after-state-in .state-in .ensures) ∙ after-held .held .given .1)
+    (rw (after-target-in .target-in .ensures) at (after-emit-jump-to .emit-jump-to .ensures))
+    (after-leave-core .leave-core .ensures)
+
+pub tfb-emit-jump-to-spec : {M : Type 1} → statement M
+tfb-emit-jump-to-spec =
+    tie.close
+    (tie.spec
+    state-in-requires
+    enum-known-held
+    enum-told
+    answer-requires
+    same-length
+    returns
+    target-in-requires
+    emit-jump-to-requires
+    leave-core-requires
+    same-length-2
+    same-length-3
+    same-length-4
+    returns-2)
