@@ -23,7 +23,7 @@ use Rattle.code.specs.declared.Flowing.the-variants as F
 use Rattle.code.specs.declared.Goal.{Goal}
 use Rattle.code.specs.declared.Goal.the-variants.{Nowhere, To, Outside}
 use Rattle.code.specs.Flow.{flowOf}
-use Rattle.code.specs.Depths.{Stands, Place, first, Begins, Leads, Falls, Jumps, Kept, Assigns, Derived}
+use Rattle.code.specs.Depths.{Stands, Place, Begins, Leads, Falls, Jumps, Kept, Assigns, Derived}
 use Rattle.code.proofs.Assigning.{leads-is, smallest, clash-depths}
 use Rattle.checker.specs.declared.Checked.{Checked}
 use Rattle.checker.specs.declared.Checked.the-variants.{Accepted, Refused}
@@ -32,9 +32,8 @@ use Rattle.checker.specs.Promise.{Listed, Solution, Promise}
 use Rattle.checker.specs.Inner.{NoFault}
 use Rattle.checker.proofs.Holding.{depth-in, in-depth, cell-in}
 use Rattle.checker.proofs.Solutions.{counted}
-use Rattle.checker.proofs.Walking.{walking-none}
 use Rattle.checker.proofs.Promising.{promise-some, promise-none, promise-one}
-use Rattle.checker.proofs.Reaching.{lead, reached, has, has-in, reached-derived, walksTo, walks-place, ends, ends-whole}
+use Rattle.checker.proofs.Reaching.{lead, reached, has, has-in, reached-derived, comesTo, comes-place, ends, ends-whole}
 
 -- tests
 
@@ -101,14 +100,14 @@ module _ (c : List ℕ) (o d : ℕ) (f : Flow) where
 -- the test
 
 abbrev pub startOk : ℕ → List ℕ → List ℕ → ℕ → Bool
-startOk last s st k = both (leb (getD st (2 * k + 1) 0) 65535) (walksTo last (suc (length s)) s (getD st (2 * k) 0) 0)
+startOk last s st k = both (leb (getD st (2 * k + 1) 0) 65535) (comesTo last s (getD st (2 * k) 0))
 
 -- the code has no fault, and the start list can be
 abbrev pub inputOk : ℕ → List ℕ → List ℕ → Bool
-inputOk last s st = both (ends last (suc (length s)) s 0) (both (eqb (length st % 2) 0) (everyFrom (startOk last s st) 0 (length st / 2)))
+inputOk last s st = both (ends last s) (both (eqb (length st % 2) 0) (everyFrom (startOk last s st) 0 (length st / 2)))
 
 abbrev pub depthOk : ℕ → List ℕ → List ℕ → List ℕ → ℕ → ℕ → Bool
-depthOk last s st c k o = both (has o (cell c o) (reached last s st k)) (both (walksTo last (suc (length s)) s o 0) (keptOk c o (cell c o) (flowOf last o (drop o s))))
+depthOk last s st c k o = both (has o (cell c o) (reached last s st k)) (both (comesTo last s o) (keptOk c o (cell c o) (flowOf last o (drop o s))))
 
 -- a cell holds 65,536, or a depth that k steps lead to, at a place, and that is respected
 abbrev pub cellOk : ℕ → List ℕ → List ℕ → List ℕ → ℕ → ℕ → Bool
@@ -126,10 +125,10 @@ certificate last s st c k =
 
 module _ (last : ℕ) (s st : List ℕ) (t : T (inputOk last s st)) where
   t2 : T (both (eqb (length st % 2) 0) (everyFrom (startOk last s st) 0 (length st / 2)))
-  t2 = right (ends last (suc (length s)) s 0) (both (eqb (length st % 2) 0) (everyFrom (startOk last s st) 0 (length st / 2))) t
+  t2 = right (ends last s) (both (eqb (length st % 2) 0) (everyFrom (startOk last s st) 0 (length st / 2))) t
 
   pub input-whole : NoFault last s
-  input-whole = ends-whole (suc (length s)) s 0 (walking-none s) (left (ends last (suc (length s)) s 0) (both (eqb (length st % 2) 0) (everyFrom (startOk last s st) 0 (length st / 2))) t)
+  input-whole = ends-whole last s (left (ends last s) (both (eqb (length st % 2) 0) (everyFrom (startOk last s st) 0 (length st / 2))) t)
 
   pub input-listed : Listed last s st
   input-listed = record {
@@ -137,8 +136,8 @@ module _ (last : ℕ) (s st : List ℕ) (t : T (inputOk last s st)) where
     good = λ k l.
         let i = in-range (startOk last s st) 0 (length st / 2) k (omega arith) (omega arith) (right (eqb (length st % 2) 0) (everyFrom (startOk last s st) 0 (length st / 2)) t2) in
         let a = leb (getD st (2 * k + 1) 0) 65535 in
-        let b = walksTo last (suc (length s)) s (getD st (2 * k) 0) 0 in
-        (leb→le (getD st (2 * k + 1) 0) 65535 (left a b i), walks-place (suc (length s)) s (getD st (2 * k) 0) 0 first (right a b i));
+        let b = comesTo last s (getD st (2 * k) 0) in
+        (leb→le (getD st (2 * k + 1) 0) 65535 (left a b i), comes-place last s (getD st (2 * k) 0) (right a b i));
   }
 
 -- what the test shows
@@ -166,24 +165,24 @@ module _ (last : ℕ) (s st c : List ℕ) (k : ℕ) (input : T (inputOk last s s
       subst (λ (b : Bool). T (pick b (depthOk last s st c k o) true)) (le-leb (cell c o) 65535 h) t
 
   deep-rest : (o : ℕ) → cell c o ≤ 65535
-      → T (both (walksTo last (suc (length s)) s o 0) (keptOk c o (cell c o) (flowOf last o (drop o s))))
-  deep-rest o h = right (has o (cell c o) (reached last s st k)) (both (walksTo last (suc (length s)) s o 0) (keptOk c o (cell c o) (flowOf last o (drop o s)))) (deep o h)
+      → T (both (comesTo last s o) (keptOk c o (cell c o) (flowOf last o (drop o s))))
+  deep-rest o h = right (has o (cell c o) (reached last s st k)) (both (comesTo last s o) (keptOk c o (cell c o) (flowOf last o (drop o s)))) (deep o h)
 
   cell-derived : (o d : ℕ) → depthIn c o ≡ some d → Derived last s st o d
   cell-derived o d e =
       let i = in-depth c o d e in
-      let t = left (has o (cell c o) (reached last s st k)) (both (walksTo last (suc (length s)) s o 0) (keptOk c o (cell c o) (flowOf last o (drop o s)))) (deep o (omega arith)) in
+      let t = left (has o (cell c o) (reached last s st k)) (both (comesTo last s o) (keptOk c o (cell c o) (flowOf last o (drop o s)))) (deep o (omega arith)) in
       subst (λ (x : ℕ). Derived last s st o x) (i .0) (reached-derived s st k o (cell c o) (has-in o (cell c o) (reached last s st k) t))
 
   cell-place : (o d : ℕ) → depthIn c o ≡ some d → Place last s o × (d ≤ 65535)
   cell-place o d e =
       let i = in-depth c o d e in
-      (walks-place (suc (length s)) s o 0 first (left (walksTo last (suc (length s)) s o 0) (keptOk c o (cell c o) (flowOf last o (drop o s))) (deep-rest o (omega arith))), i .1)
+      (comes-place last s o (left (comesTo last s o) (keptOk c o (cell c o) (flowOf last o (drop o s))) (deep-rest o (omega arith))), i .1)
 
   cell-kept : (o d : ℕ) (f : Flow) → depthIn c o ≡ some d → Stands last s o f → Kept (depthIn c) f o d
   cell-kept o d f e h =
       let i = in-depth c o d e in
-      let t = right (walksTo last (suc (length s)) s o 0) (keptOk c o (cell c o) (flowOf last o (drop o s))) (deep-rest o (omega arith)) in
+      let t = right (comesTo last s o) (keptOk c o (cell c o) (flowOf last o (drop o s))) (deep-rest o (omega arith)) in
       subst (λ (x : ℕ). Kept (depthIn c) f o x) (i .0) (op-kept c o (cell c o) f (subst (λ (x : Flowing). T (keptOk c o (cell c o) x)) (h .is) t))
 
   start-held : (o d : ℕ) → Begins st o d → depthIn c o ≡ some d

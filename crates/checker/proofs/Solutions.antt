@@ -21,7 +21,7 @@ use Rattle.code.specs.Flow.{flowOf}
 use Rattle.code.specs.Depths.{Stands, Place, Begins, Kept, Assigns, Impossible, Derived, Rising, Counts}
 use Rattle.code.proofs.Assigning.{smallest}
 use Rattle.code.proofs.Counting.{rising-lower}
-use Rattle.code.proofs.Places.{stands-size, ends-over}
+use Rattle.code.proofs.Places.{stands-size, ends-over, faulty-at}
 use Rattle.checker.specs.Cells.{cell, depthIn, held}
 use Rattle.checker.specs.Promise.{Solution}
 use Rattle.checker.specs.Inner.{Sound, KeptAt, NoFault, Marked, Placed, Settled, Cleaned}
@@ -157,7 +157,7 @@ stands-by : {last : ℕ} (s : List ℕ) (o : ℕ) (x : Flowing) → flowOf last 
     → Place last s o → o < length s → (f : Flow) × Stands last s o f
 stands-by s o (F.Op f) e whole p l = (f, record { is = e })
 stands-by {last} s o F.End e whole p l = absurd (omega (arith, ends-over last s o e))
-stands-by s o (F.Refused q) e whole p l = absurd (whole q (record { offset = o; place = p; fault = e }))
+stands-by s o (F.Refused q) e whole p l = absurd (whole q (faulty-at p e))
 
 module _ {last : ℕ} {s st : List ℕ} (c : List ℕ) (whole : NoFault last s) (A : Assigns last s st (depthIn c)) (size : length c ≡ suc (length s)) where
   fits : length (take (length s) c) ≡ length s

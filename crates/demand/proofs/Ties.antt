@@ -31,7 +31,8 @@ use Rattle.builder.specs.declared.marks.Mark.{Mark}
 use Rattle.builder.specs.declared.marks.Mark.the-variants.{Open, Patched, Target}
 use Rattle.builder.proofs.Displacing.{displaced}
 use Rattle.builder.proofs.Plans.{after-shape}
-use Rattle.demand.specs.Machine.{instruction, inRange, isa}
+use Rattle.code.specs.Reading.{instruction}
+use Rattle.demand.specs.Machine.{inRange, isa}
 use Rattle.demand.specs.History.{waits, to, What, one, leap, Row}
 use Rattle.demand.specs.History.{Call, emit, emitJump, emitJumpTo, patchJump, jumpTarget, newRegion, other, Given, no, ok}
 use Rattle.demand.specs.History.{History, born, blank, add, patchHere, targetHere, startHere, look, seen}
