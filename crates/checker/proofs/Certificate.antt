@@ -2,7 +2,7 @@
 -- offset leave none. The examples rest on it.
 -- Assumes nothing.
 use mathlib.Core.Path.{_≡_, refl, sym, ap, subst, _∙_}
-use mathlib.Core.Bool.{Bool, true, false}
+use mathlib.Core.Bool.{Bool, true, false, cond}
 use mathlib.Core.List.{List, _++_}
 use mathlib.Core.Option.{some}
 use Prim.Native.Nat.{ℕ, suc, _+_, _*_, _/_, _%_, _≤_, _<_}
@@ -11,7 +11,6 @@ use native.Mathlib.Decide.{decLt}
 use lib.Dec.{T, eqb, leb, eqb→eq, leb→le}
 use lib.ListN.{length, getD, drop, take, replicate, List·getD-eq-default}
 use borrow.Author.Tests.{le-leb}
-use Rattle.op.specs.Choice.{pick}
 use Rattle.op.specs.declared.After.{After}
 use Rattle.op.specs.declared.After.the-variants as A
 use Rattle.op.specs.declared.Refusal.the-variants.{NoDepths}
@@ -65,7 +64,7 @@ jumpOk c x (To t) = holds c t x
 jumpOk c x Outside = false
 
 abbrev pub keptOk : List ℕ → ℕ → ℕ → Flowing → Bool
-keptOk c o d (F.Op f) = both (pick (f .falls) (holds c (o + f .size) (lead d (f .net))) (inRange (lead d (f .net)))) (jumpOk c (lead d (f .taken)) (f .goal))
+keptOk c o d (F.Op f) = both (cond (f .falls) (holds c (o + f .size) (lead d (f .net))) (inRange (lead d (f .net)))) (jumpOk c (lead d (f .taken)) (f .goal))
 keptOk c o d F.End = true
 keptOk c o d (F.Refused q) = true
 
@@ -79,7 +78,7 @@ module _ (c : List ℕ) (d : ℕ) (change : Change) where
   range-in (A.Refused r) h t = absurd t
 
 module _ (c : List ℕ) (o d : ℕ) (f : Flow) where
-  falls-kept : (b : Bool) → f .falls ≡ b → T (pick b (holds c (o + f .size) (lead d (f .net))) (inRange (lead d (f .net)))) → Falls (depthIn c) f o d
+  falls-kept : (b : Bool) → f .falls ≡ b → T (cond b (holds c (o + f .size) (lead d (f .net))) (inRange (lead d (f .net)))) → Falls (depthIn c) f o d
   falls-kept true fl t = let g = holds-in c d (f .net) (o + f .size) (lead d (f .net)) refl t in record { depth = g .0; leads = g .1 .0; has = λ y. g .1 .1 }
   falls-kept false fl t = let g = range-in c d (f .net) (lead d (f .net)) refl t in record { depth = g .0; leads = g .1; has = λ y. absurd (clash y fl) }
     where
@@ -93,7 +92,7 @@ module _ (c : List ℕ) (o d : ℕ) (f : Flow) where
 
   op-kept : T (keptOk c o d (F.Op f)) → Kept (depthIn c) f o d
   op-kept t =
-      let a = pick (f .falls) (holds c (o + f .size) (lead d (f .net))) (inRange (lead d (f .net))) in
+      let a = cond (f .falls) (holds c (o + f .size) (lead d (f .net))) (inRange (lead d (f .net))) in
       let b = jumpOk c (lead d (f .taken)) (f .goal) in
       record { falls = falls-kept (f .falls) refl (left a b t); jumps = jumps-kept (f .goal) refl (right a b t) }
 
@@ -111,7 +110,7 @@ depthOk last s st c k o = both (has o (cell c o) (reached last s st k)) (both (c
 
 -- a cell holds 65,536, or a depth that k steps lead to, at a place, and that is respected
 abbrev pub cellOk : ℕ → List ℕ → List ℕ → List ℕ → ℕ → ℕ → Bool
-cellOk last s st c k o = both (leb (cell c o) 65536) (pick (leb (cell c o) 65535) (depthOk last s st c k o) true)
+cellOk last s st c k o = both (leb (cell c o) 65536) (cond (leb (cell c o) 65535) (depthOk last s st c k o) true)
 
 abbrev pub startHeld : List ℕ → List ℕ → ℕ → Bool
 startHeld st c k = eqb (cell c (getD st (2 * k) 0)) (getD st (2 * k + 1) 0)
@@ -154,15 +153,15 @@ module _ (last : ℕ) (s st c : List ℕ) (k : ℕ) (input : T (inputOk last s s
 
   cell-small : (o : ℕ) → cell c o ≤ 65536
   cell-small o = elim (decLt o (length c)) [
-    | yes l ↦ leb→le (cell c o) 65536 (left (leb (cell c o) 65536) (pick (leb (cell c o) 65535) (depthOk last s st c k o) true) (cell-ok o l))
+    | yes l ↦ leb→le (cell c o) 65536 (left (leb (cell c o) 65536) (cond (leb (cell c o) 65535) (depthOk last s st c k o) true) (cell-ok o l))
     | no l ↦ (let z : cell c o ≡ 65536 = List·getD-eq-default c 65536 (omega arith) in omega arith)
   ]
 
   deep : (o : ℕ) → cell c o ≤ 65535 → T (depthOk last s st c k o)
   deep o h =
       let l = cell-in c o (λ z. omega arith) in
-      let t = right (leb (cell c o) 65536) (pick (leb (cell c o) 65535) (depthOk last s st c k o) true) (cell-ok o l) in
-      subst (λ (b : Bool). T (pick b (depthOk last s st c k o) true)) (le-leb (cell c o) 65535 h) t
+      let t = right (leb (cell c o) 65536) (cond (leb (cell c o) 65535) (depthOk last s st c k o) true) (cell-ok o l) in
+      subst (λ (b : Bool). T (cond b (depthOk last s st c k o) true)) (le-leb (cell c o) 65535 h) t
 
   deep-rest : (o : ℕ) → cell c o ≤ 65535
       → T (both (comesTo last s o) (keptOk c o (cell c o) (flowOf last o (drop o s))))

@@ -2,7 +2,7 @@
 -- reading comes to. The certificate of an assignment rests on it.
 -- Assumes nothing.
 use mathlib.Core.Path.{_≡_, refl, sym, ap, subst, _∙_}
-use mathlib.Core.Bool.{Bool, true, false}
+use mathlib.Core.Bool.{Bool, true, false, cond}
 use mathlib.Core.List.{List, [], _∷_, _++_, List·Memᴰ, List·Memᴰ·head, List·Memᴰ·tail, List·Memᴰ·cases-cons, List·Memᴰ·not-nil, List·Memᴰ·append-cases}
 use mathlib.Core.Logic.{⊎-elim}
 use mathlib.Core.Option.{Option, some, none}
@@ -10,7 +10,7 @@ use Prim.Native.Nat.{ℕ, zero, suc, _+_, _*_}
 use native.Mathlib.Omega.{arith}
 use lib.Dec.{T, eqb, eqb→eq}
 use lib.ListN.{drop}
-use Rattle.op.specs.Choice.{pick, isIn}
+use Rattle.op.specs.Choice.{isIn}
 use Rattle.op.specs.Depths.{landing, lowFalling}
 use Rattle.op.specs.declared.After.{After}
 use Rattle.op.specs.declared.After.the-variants as A
@@ -47,7 +47,7 @@ leaps d c (To t) = gives t (lead d c)
 leaps d c Outside = []
 
 abbrev pub onward : ℕ → ℕ → Flowing → List Given
-onward o d (F.Op f) = pick (f .falls) (gives (o + f .size) (lead d (f .net))) [] ++ leaps d (f .taken) (f .goal)
+onward o d (F.Op f) = cond (f .falls) (gives (o + f .size) (lead d (f .net))) [] ++ leaps d (f .taken) (f .goal)
 onward o d F.End = []
 onward o d (F.Refused q) = []
 
@@ -66,14 +66,14 @@ reached last s st (suc k) = pairs st ++ steps last s (reached last s st k)
 
 abbrev pub has : ℕ → ℕ → List Given → Bool
 has o d [] = false
-has o d (given q e ∷ xs) = pick (eqb o q) (pick (eqb d e) true (has o d xs)) (has o d xs)
+has o d (given q e ∷ xs) = cond (eqb o q) (cond (eqb d e) true (has o d xs)) (has o d xs)
 
 pub has-in : (o d : ℕ) (xs : List Given) → T (has o d xs) → List·Memᴰ (given o d) xs
 has-in o d [] t = absurd t
 has-in o d (given q e ∷ xs) t = one (eqb o q) (eqb d e) refl refl (has-in o d xs) t
   where
     one : (a b : Bool) → eqb o q ≡ a → eqb d e ≡ b → (T (has o d xs) → List·Memᴰ (given o d) xs)
-        → T (pick a (pick b true (has o d xs)) (has o d xs)) → List·Memᴰ (given o d) (given q e ∷ xs)
+        → T (cond a (cond b true (has o d xs)) (has o d xs)) → List·Memᴰ (given o d) (given q e ∷ xs)
     one true true ea eb later t =
         let x : o ≡ q = eqb→eq o q (subst T (sym ea) tt) in
         let y : d ≡ e = eqb→eq d e (subst T (sym eb) tt) in
@@ -106,7 +106,7 @@ gives-in t (A.Refused r) q e m = absurd (List·Memᴰ·not-nil m)
 module _ {last : ℕ} (s st : List ℕ) where
   module _ (o d : ℕ) (D : Derived last s st o d) (f : Flow) (h : Stands last s o f) (q e : ℕ) where
     falls-derived : (b : Bool) → f .falls ≡ b
-        → List·Memᴰ (given q e) (pick b (gives (o + f .size) (lead d (f .net))) []) → Derived last s st q e
+        → List·Memᴰ (given q e) (cond b (gives (o + f .size) (lead d (f .net))) []) → Derived last s st q e
     falls-derived true fl m = let g = gives-in (o + f .size) (lead d (f .net)) q e m in fall D h fl (g .1) (g .0)
     falls-derived false fl m = absurd (List·Memᴰ·not-nil m)
 
@@ -120,7 +120,7 @@ module _ {last : ℕ} (s st : List ℕ) where
   onward-derived o d D (F.Op f) h q e m =
       let w : Stands last s o f = record { is = h } in
       ⊎-elim (falls-derived o d D f w q e (f .falls) refl) (leaps-derived o d D f w q e (f .goal) refl)
-      (List·Memᴰ·append-cases (pick (f .falls) (gives (o + f .size) (lead d (f .net))) []) m)
+      (List·Memᴰ·append-cases (cond (f .falls) (gives (o + f .size) (lead d (f .net))) []) m)
   onward-derived o d D F.End h q e m = absurd (List·Memᴰ·not-nil m)
   onward-derived o d D (F.Refused r) h q e m = absurd (List·Memᴰ·not-nil m)
 
@@ -143,7 +143,7 @@ is-in : (o : ℕ) (xs : List ℕ) → T (isIn o xs) → List·Memᴰ o xs
 is-in o [] t = absurd t
 is-in o (x ∷ xs) t = one (eqb o x) refl (is-in o xs) t
   where
-    one : (b : Bool) → eqb o x ≡ b → (T (isIn o xs) → List·Memᴰ o xs) → T (pick b true (isIn o xs)) → List·Memᴰ o (x ∷ xs)
+    one : (b : Bool) → eqb o x ≡ b → (T (isIn o xs) → List·Memᴰ o xs) → T (cond b true (isIn o xs)) → List·Memᴰ o (x ∷ xs)
     one true e later t = List·Memᴰ·head (eqb→eq o x (subst T (sym e) tt))
     one false e later t = List·Memᴰ·tail (later t)
 

@@ -1,10 +1,9 @@
 -- Lent tables as rows of w cells: document 01, "Lent tables" ("six a row", "four a row") and "Lookups" ("a trailing part row is skipped").
 -- Assumes nothing.
 use Prim.Native.Nat.{ℕ, zero, suc, _+_, _*_, _/_}
-use mathlib.Core.Bool.{Bool}
+use mathlib.Core.Bool.{Bool, cond}
 use mathlib.Core.List.{List}
 use lib.ListN.{length, getD, take, drop}
-use Rattle.op.specs.Choice.{pick}
 
 -- how many whole rows a table has: a trailing part row is skipped
 abbrev pub rowCount : ℕ → List ℕ → ℕ
@@ -21,4 +20,4 @@ row w cells i = take w (drop (i * w) cells)
 -- the first of the rows 0 to n - 1 that passes a test, or n if none does
 unfoldable pub first : (ℕ → Bool) → ℕ → ℕ
 first test zero = zero
-first test (suc n) = pick (test zero) zero (suc (first (λ i. test (suc i)) n))
+first test (suc n) = cond (test zero) zero (suc (first (λ i. test (suc i)) n))

@@ -1,7 +1,7 @@
 -- The bytes of the rows, and their depths; a patch of the bytes is a patch of the rows.
 -- Assumes nothing.
 use mathlib.Core.Path.{_≡_, refl, sym, ap, _∙_}
-use mathlib.Core.Bool.{Bool, true, false}
+use mathlib.Core.Bool.{Bool, true, false, cond}
 use mathlib.Core.Logic.{_⊎_, inl, inr}
 use mathlib.Core.List.{List, [], _∷_, _++_, map, append-assoc, List·Memᴰ as Mem, List·Memᴰ·head as mhead, List·Memᴰ·tail as mtail, List·Memᴰ·not-nil}
 use mathlib.Core.Option.{some, none}
@@ -11,7 +11,6 @@ use native.Mathlib.Nat.{zero-add, suc-add}
 use lib.Dec.{eqb}
 use lib.ListN.{length, set, length-append}
 use borrow.Author.Tests.{eqb-true, eq-eqb, ne-eqb}
-use Rattle.op.specs.Choice.{pick}
 use Rattle.builder.specs.Marks.{near, bits}
 use Rattle.builder.specs.declared.Depth.{Depth}
 use Rattle.builder.specs.declared.Depth.the-variants.{Dead, Live}
@@ -68,7 +67,7 @@ module _ (I : Isa) (L : Laws I) where
       → ((r : Row I) × Mem r rs × (r .offset ≡ o) × (r .depth ≡ d)) ⊎ ((n ≡ o) × (c ≡ Live d))
   depth-sound [] n c o d h = go (eqb n o) refl c h
     where
-      go : (x : Bool) → eqb n o ≡ x → (c : Depth) → pick x (atEnd c) none ≡ some d → ((r : Row I) × Mem r [] × (r .offset ≡ o) × (r .depth ≡ d)) ⊎ ((n ≡ o) × (c ≡ Live d))
+      go : (x : Bool) → eqb n o ≡ x → (c : Depth) → cond x (atEnd c) none ≡ some d → ((r : Row I) × Mem r [] × (r .offset ≡ o) × (r .depth ≡ d)) ⊎ ((n ≡ o) × (c ≡ Live d))
       go false e c h = absurd (let z : _≡_ {A = ℕ} 0 1 = cc in omega arith)
       go true e Dead h = absurd (let z : _≡_ {A = ℕ} 0 1 = cc in omega arith)
       go true e (Live x) h = inr (eqb-true n o e, cc)
@@ -79,7 +78,7 @@ module _ (I : Isa) (L : Laws I) where
       up (inl t) = inl (t .0, mtail (t .1), t .2, t .3)
       up (inr t) = inr t
 
-      go : (y : Bool) → eqb (x .offset) o ≡ y → pick y (some (x .depth)) (depthAt I rs n c o) ≡ some d
+      go : (y : Bool) → eqb (x .offset) o ≡ y → cond y (some (x .depth)) (depthAt I rs n c o) ≡ some d
           → (depthAt I rs n c o ≡ some d → ((r : Row I) × Mem r rs × (r .offset ≡ o) × (r .depth ≡ d)) ⊎ ((n ≡ o) × (c ≡ Live d)))
           → ((r : Row I) × Mem r (x ∷ rs) × (r .offset ≡ o) × (r .depth ≡ d)) ⊎ ((n ≡ o) × (c ≡ Live d))
       go true e h k = inl (x, mhead refl, eqb-true (x .offset) o e, cc)
@@ -128,7 +127,7 @@ module _ (I : Isa) (L : Laws I) (k t : ℕ) where
   aim-cases (leap j (to u)) = inl refl
   aim-cases (leap j (waits l)) = go (eqb l k) refl
     where
-      go : (y : Bool) → eqb l k ≡ y → (_≡_ {A = What I} (leap j (pick y (to t) (waits l))) (leap j (waits l))) ⊎ ((i : I .Jump) × (_≡_ {A = What I} (leap j (waits l)) (leap i (waits k))))
+      go : (y : Bool) → eqb l k ≡ y → (_≡_ {A = What I} (leap j (cond y (to t) (waits l))) (leap j (waits l))) ⊎ ((i : I .Jump) × (_≡_ {A = What I} (leap j (waits l)) (leap i (waits k))))
       go true e = let q = eqb-true l k e in inr (j, rw q)
       go false e = inl refl
 

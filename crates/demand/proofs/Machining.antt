@@ -1,7 +1,7 @@
 -- The laws of document 01's instruction set, from the laws of `op` and `code`.
 -- Assumes nothing.
 use mathlib.Core.Path.{_≡_, refl, _∙_}
-use mathlib.Core.Bool.{Bool, true, false}
+use mathlib.Core.Bool.{Bool, true, false, cond}
 use mathlib.Core.List.{List, [], _∷_, _++_}
 use mathlib.Core.Option.{some}
 use Prim.Native.Nat.{ℕ, _+_, _-_, _/_, _%_, _≤_, _<_}
@@ -13,7 +13,6 @@ use lib.Seq.{drop-at}
 use lib.Signed.{mag}
 use mir.Syntax.{w16}
 use borrow.Author.Tests.{leb-true}
-use Rattle.op.specs.Choice.{pick}
 use Rattle.op.specs.Depths.{deepest, landing, afterOf, takenDepthOf, lowFalling, lowTaken}
 use Rattle.op.specs.Opcodes.{lastOpcode}
 use Rattle.op.specs.Shapes.{shapeOf, operandShape}
@@ -47,7 +46,7 @@ use Rattle.demand.proofs.Laws.{Laws}
 -- depths
 
 module _ (low : Refusal) (d e : ℕ) where
-  by-tests : (s t : Bool) (x : ℕ) (p q : Refusal) → leb x deepest ≡ t → pick s (pick t (A.Depth x) (A.Refused p)) (A.Refused q) ≡ A.Depth e → e ≤ 65535
+  by-tests : (s t : Bool) (x : ℕ) (p q : Refusal) → leb x deepest ≡ t → cond s (cond t (A.Depth x) (A.Refused p)) (A.Refused q) ≡ A.Depth e → e ≤ 65535
   by-tests true true x p q h k = let z : x ≡ e = cc in omega (arith, leb-true x deepest h)
   by-tests true false x p q h k = absurd (let z : _≡_ {A = ℕ} 0 1 = cc in omega arith)
   by-tests false t x p q h k = absurd (let z : _≡_ {A = ℕ} 0 1 = cc in omega arith)
@@ -58,7 +57,7 @@ module _ (low : Refusal) (d e : ℕ) where
   landing-small (E.Refused r) h = absurd (let z : _≡_ {A = ℕ} 0 1 = cc in omega arith)
 
   -- the depth does not hang on the refusal that is given below 0
-  any-low : (s t : Bool) (x : ℕ) (p q q′ : Refusal) → pick s (pick t (A.Depth x) (A.Refused p)) (A.Refused q) ≡ A.Depth e → pick s (pick t (A.Depth x) (A.Refused p)) (A.Refused q′) ≡ A.Depth e
+  any-low : (s t : Bool) (x : ℕ) (p q q′ : Refusal) → cond s (cond t (A.Depth x) (A.Refused p)) (A.Refused q) ≡ A.Depth e → cond s (cond t (A.Depth x) (A.Refused p)) (A.Refused q′) ≡ A.Depth e
   any-low true t x p q q′ h = h
   any-low false t x p q q′ h = absurd (let z : _≡_ {A = ℕ} 0 1 = cc in omega arith)
 

@@ -1,14 +1,13 @@
 -- Each public call, made as its promise says: it moves the view, and keeps the used parts within the tables.
 -- Assumes nothing.
 use mathlib.Core.Path.{_≡_, refl}
-use mathlib.Core.Bool.{Bool, true, false}
+use mathlib.Core.Bool.{Bool, true, false, cond}
 use mathlib.Core.List.{List, [], _∷_}
 use Prim.Native.Nat.{ℕ, zero, suc, _*_, _%_, _≤_, _<_}
 use native.Mathlib.Omega.{arith}
 use lib.Dec.{leb}
 use lib.ListN.{length}
 use borrow.Author.Tests.{lt-leb, ne-eqb}
-use Rattle.op.specs.Choice.{pick}
 use Rattle.op.specs.Chosen.{LoadLocal, LoadLocalW, StoreLocal, StoreLocalW}
 use Rattle.op.specs.Chosen.{LoadGlobalCallable, CallBuiltinFunction, CallBuiltinType, CallFunctionKw, CallAttrKw}
 use Rattle.op.specs.Opcodes.{RaiseUnboundLocal}
@@ -52,7 +51,7 @@ use Rattle.demand.proofs.Ties.{Tied, Sane, moved-tied}
 abbrev SaneOperand : Operand → Type 0
 SaneOperand o = SignsFit o × Still o
 
-sane-pick : (t : Bool) (x y : Operand) → SaneOperand x → SaneOperand y → SaneOperand (pick t x y)
+sane-pick : (t : Bool) (x y : Operand) → SaneOperand x → SaneOperand y → SaneOperand (cond t x y)
 sane-pick true x y p q = p
 sane-pick false x y p q = q
 
@@ -74,8 +73,8 @@ wide-load slot h =
       lt-leb slot 3 h,
     ) (go (leb slot 255))
   where
-    go : (t : Bool) → pick t (emit LoadLocal (O.U8 slot) []) (emit LoadLocalW (O.U16 slot) [])
-        ≡ emit (pick t LoadLocal LoadLocalW) (pick t (O.U8 slot) (O.U16 slot)) []
+    go : (t : Bool) → cond t (emit LoadLocal (O.U8 slot) []) (emit LoadLocalW (O.U16 slot) [])
+        ≡ emit (cond t LoadLocal LoadLocalW) (cond t (O.U8 slot) (O.U16 slot)) []
     go true = refl
     go false = refl
 
@@ -89,8 +88,8 @@ load-kind (suc (suc (suc (suc n)))) = wide-load (suc (suc (suc (suc n)))) (omega
 pub store-kind : (slot : ℕ) → stores slot ≡ emit (storeOp slot) (storeOperand slot) []
 store-kind slot = go (leb slot 255)
   where
-    go : (t : Bool) → pick t (emit StoreLocal (O.U8 slot) []) (emit StoreLocalW (O.U16 slot) [])
-        ≡ emit (pick t StoreLocal StoreLocalW) (pick t (O.U8 slot) (O.U16 slot)) []
+    go : (t : Bool) → cond t (emit StoreLocal (O.U8 slot) []) (emit StoreLocalW (O.U16 slot) [])
+        ≡ emit (cond t StoreLocal StoreLocalW) (cond t (O.U8 slot) (O.U16 slot)) []
     go true = refl
     go false = refl
 

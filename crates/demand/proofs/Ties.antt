@@ -1,7 +1,7 @@
 -- The view and the history go together: each move of the view keeps what ties them.
 -- Assumes nothing.
 use mathlib.Core.Path.{_≡_, refl, sym, ap, _∙_}
-use mathlib.Core.Bool.{Bool, true, false}
+use mathlib.Core.Bool.{Bool, true, false, cond}
 use mathlib.Core.Logic.{_⊎_, inl, inr}
 use mathlib.Core.List.{List, [], _∷_, _++_, append-nil, List·Memᴰ·not-nil}
 use mathlib.Core.Option.{Option, some}
@@ -10,7 +10,6 @@ use native.Mathlib.Omega.{arith}
 use lib.IntN.{pos}
 use lib.ListN.{length, set, getElem?}
 use borrow.Author.Tests.{eq-eqb, ne-eqb, eqb-true}
-use Rattle.op.specs.Choice.{pick}
 use Rattle.op.specs.Depths.{afterOf, takenDepthOf}
 use Rattle.op.specs.Effects.{deadMaker}
 use Rattle.op.specs.declared.After.the-variants as A
@@ -97,7 +96,7 @@ after-behind : (k e : ℕ) (x : Option ℕ) → x ≡ some e → after isa (dead
 unfolding behind
 after-behind k e x h = rw h (go (deadMaker k))
   where
-    go : (b : Bool) → after isa b (some e) ≡ pick b Dead (Live e)
+    go : (b : Bool) → after isa b (some e) ≡ cond b Dead (Live e)
     go true = refl
     go false = refl
 

@@ -1,7 +1,7 @@
 -- The lines from offset 0 on, one behind the other behind the first, are the listing.
 -- Assumes nothing.
 use mathlib.Core.Path.{_≡_, refl, sym, ap, _∙_}
-use mathlib.Core.Bool.{Bool, true, false}
+use mathlib.Core.Bool.{Bool, true, false, cond}
 use mathlib.Core.List.{List, [], _∷_, _++_, append-nil, append-assoc}
 use mathlib.Core.Option.{Option, some, none}
 use Prim.Native.Nat.{ℕ, _+_, _≤_, _<_}
@@ -9,7 +9,6 @@ use native.Mathlib.Omega.{arith}
 use lib.Dec.{leb}
 use lib.ListN.{length, drop}
 use borrow.Author.Tests.{le-leb, lt-leb}
-use Rattle.op.specs.Choice.{pick}
 use Rattle.op.specs.Names.{nameOf, nameText, nameStarts, nameBy}
 use Rattle.op.specs.Opcodes.{table, lastOpcode}
 use Rattle.op.specs.Shapes.{shapeOf, operandShape}
@@ -45,7 +44,7 @@ listing-begins code = by (leb (length code) most)
     lines : List ℕ
     lines = linesOf (instructionsIn lastOpcode code)
 
-    by : (b : Bool) → pick b (header ++ lines) (faultLine 0 TooLarge) ≡ pick b header (faultLine 0 TooLarge) ++ pick b lines []
+    by : (b : Bool) → cond b (header ++ lines) (faultLine 0 TooLarge) ≡ cond b header (faultLine 0 TooLarge) ++ cond b lines []
     by true = refl
     by false = sym (append-nil (faultLine 0 TooLarge))
 

@@ -1,12 +1,12 @@
 -- A whole listing: document 01, "The program `listing`"; refusals 1, 10 and 22.
 -- Assumes nothing.
+use mathlib.Core.Bool.{cond}
 use mathlib.Core.List.{List, [], _∷_, _++_}
 use mathlib.Core.Option.{Option, some, none}
 use Prim.Native.Nat.{ℕ}
 use lib.Dec.{leb}
 use lib.ListN.{length, drop}
 use Rattle.op.specs.Opcodes.{lastOpcode}
-use Rattle.op.specs.Choice.{pick}
 use Rattle.op.specs.Names.{ascii, nameOf}
 use Rattle.op.specs.Refusals.{numberOf}
 use Rattle.op.specs.declared.Refusal.{Refusal}
@@ -68,12 +68,12 @@ linesOf read = spotLines (read .spots) ++ stopLine (read .stop) (read .fault)
 -- the whole listing
 unfoldable pub listingOf : (code : List ℕ) → List ℕ
 listingOf code =
-    pick (leb (length code) most) (header ++ linesOf (instructionsIn lastOpcode code)) (faultLine 0 TooLarge)
+    cond (leb (length code) most) (header ++ linesOf (instructionsIn lastOpcode code)) (faultLine 0 TooLarge)
 
 -- the first line of a listing of so many bytes
 unfoldable pub firstLine : ℕ → List ℕ
-firstLine size = pick (leb size most) header (faultLine 0 TooLarge)
+firstLine size = cond (leb size most) header (faultLine 0 TooLarge)
 
 -- and what comes behind it: the lines from an offset on
 unfoldable pub restOf : (code : List ℕ) (at : ℕ) → List ℕ
-restOf code at = pick (leb (length code) most) (linesOf (instructionsFrom lastOpcode at (drop at code))) []
+restOf code at = cond (leb (length code) most) (linesOf (instructionsFrom lastOpcode at (drop at code))) []
