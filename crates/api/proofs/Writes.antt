@@ -1,12 +1,11 @@
 -- Laws of the writer over a given operand, and that a step tells what was written.
 -- Assumes nothing.
 use mathlib.Core.Path.{_≡_, refl, sym, ap, _∙_}
-use mathlib.Core.Bool.{Bool, true, false}
+use mathlib.Core.Bool.{Bool, true, false, cond}
 use mathlib.Core.List.{List}
 use Prim.Native.Nat.{ℕ, _<_}
 use lib.ListN.{length}
 use borrow.Author.Tests.{lt-leb}
-use Rattle.op.specs.Choice.{pick}
 use Rattle.op.specs.Opcodes.{lastOpcode, known, rowOf}
 use Rattle.op.specs.Shapes.{shapeOf, shapeIn, operandShape}
 use Rattle.op.specs.declared.Operand.{Operand}
@@ -24,11 +23,11 @@ use Rattle.api.specs.declared.Given.{Given}
 use Rattle.api.specs.declared.Given.the-variants as G
 
 -- over 255 names: 1, then 7
-many : (k n : ℕ) → 255 < n → unwritten k n ≡ pick (known k) TooManyKeywords UnknownOpcode
+many : (k n : ℕ) → 255 < n → unwritten k n ≡ cond (known k) TooManyKeywords UnknownOpcode
 many k n h = rw (lt-leb n 255 h)
 
 module _ (k : ℕ) (o : Operand) (n room : ℕ) (h : 255 < n) where
-  by-known : (b : Bool) → known k ≡ b → W.Refused (pick b TooManyKeywords UnknownOpcode) ≡ writtenOf k o n room
+  by-known : (b : Bool) → known k ≡ b → W.Refused (cond b TooManyKeywords UnknownOpcode) ≡ writtenOf k o n room
   unfolding shapeOf
   by-known true e = written-many k o n room (shapeIn (rowOf k)) (rw e) h
   by-known false e = written-unknown k o n room UnknownOpcode (rw e)

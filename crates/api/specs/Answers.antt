@@ -1,10 +1,10 @@
 -- How answers cross to C: one 64-bit number, 2^32 times the refusal's number or else the value's 32 bits. The header says the same in words.
 -- Assumes nothing.
+use mathlib.Core.Bool.{cond}
 use mathlib.Core.List.{List, []}
 use Prim.Native.Nat.{ℕ, _*_}
 use lib.Dec.{leb}
 use lib.ListN.{length}
-use Rattle.op.specs.Choice.{pick}
 use Rattle.op.specs.Names.{nameOf}
 use Rattle.op.specs.Opcodes.{lastOpcode, known}
 use Rattle.op.specs.Refusals.{numberOf}
@@ -63,11 +63,11 @@ sizeAnswer (S.Refused r) names = refused r
 -- the length of an opcode's name: 1, then 18 where the room is too small
 unfoldable pub nameAnswer : ℕ → ℕ → ℕ
 nameAnswer k room =
-    pick (known k) (pick (leb (length (nameOf k)) room) (length (nameOf k)) (refused (Full Text))) (refused UnknownOpcode)
+    cond (known k) (cond (leb (length (nameOf k)) room) (length (nameOf k)) (refused (Full Text))) (refused UnknownOpcode)
 
 -- the cells that it is written to
 unfoldable pub nameCells : ℕ → List ℕ → List ℕ
-nameCells k out = pick (known k) (pick (leb (length (nameOf k)) (length out)) (front (nameOf k) out) out) out
+nameCells k out = cond (known k) (cond (leb (length (nameOf k)) (length out)) (front (nameOf k) out) out) out
 
 -- how many instructions a code has, or its first fault
 abbrev pub counted : Count → ℕ
@@ -76,4 +76,4 @@ counted (C.Stopped n r) = refused r
 
 -- 10 first
 unfoldable pub countAnswer : List ℕ → ℕ
-countAnswer code = pick (leb (length code) codeLimit) (counted (countOf lastOpcode code)) (refused TooLarge)
+countAnswer code = cond (leb (length code) codeLimit) (counted (countOf lastOpcode code)) (refused TooLarge)

@@ -1,11 +1,10 @@
 -- An operand and a comparison given as numbers.
 -- Assumes nothing.
-use mathlib.Core.Bool.{Bool}
+use mathlib.Core.Bool.{Bool, cond}
 use mathlib.Core.List.{List, [], _∷_}
 use Prim.Native.Nat.{ℕ}
 use lib.Dec.{ltb}
 use lib.ListN.{getD}
-use Rattle.op.specs.Choice.{pick}
 use Rattle.op.specs.Depths.{afterOf}
 use Rattle.op.specs.Effects.{effectOf}
 use Rattle.op.specs.Flags.{comparisonNumber, flagsOf}
@@ -28,7 +27,7 @@ use Rattle.api.specs.declared.Given.the-variants as G
 
 -- an operand's number that has to fit a byte
 abbrev pub byte : ℕ → Given → Given
-byte x o = pick (ltb x 256) o G.Nothing
+byte x o = cond (ltb x 256) o G.Nothing
 
 -- the operands of the twelve shapes with the values a, b, c and so many names; nothing where a value is too large for its field
 abbrev pub operands : ℕ → ℕ → ℕ → ℕ → List Given
@@ -52,7 +51,7 @@ givenOf shape a b c names = getD (operands a b c names) shape G.Nothing
 
 -- what is refused where there is no operand: 1, then 2
 abbrev pub unshaped : ℕ → Refusal
-unshaped k = pick (known k) WrongShape UnknownOpcode
+unshaped k = cond (known k) WrongShape UnknownOpcode
 
 -- the effect with a given operand
 abbrev pub effectGiven : ℕ → Given → Effect

@@ -1,11 +1,11 @@
 -- What a step of the decoder tells, and the writer's answer for an operand given as numbers.
 -- Assumes nothing.
 use mathlib.Core.Path.{_≡_}
+use mathlib.Core.Bool.{cond}
 use mathlib.Core.List.{List, [], _∷_}
 use Prim.Native.Nat.{ℕ, _+_, _-_, _*_}
 use lib.Dec.{leb}
 use lib.ListN.{length}
-use Rattle.op.specs.Choice.{pick}
 use Rattle.op.specs.Opcodes.{known}
 use Rattle.op.specs.Shapes.{shapeNumber, operandShape}
 use Rattle.op.specs.declared.Operand.{Operand}
@@ -64,7 +64,7 @@ stepTold at (S.Refused r) = refusal r
 
 -- why n names aren't written where there is no operand for them: 1, 7, then 2
 abbrev pub unwritten : ℕ → ℕ → Refusal
-unwritten k n = pick (known k) (pick (leb n 255) WrongShape TooManyKeywords) UnknownOpcode
+unwritten k n = cond (known k) (cond (leb n 255) WrongShape TooManyKeywords) UnknownOpcode
 
 -- the writer's answer for a given operand, n names and so many bytes of room
 abbrev pub writtenGiven : ℕ → Given → ℕ → ℕ → Written

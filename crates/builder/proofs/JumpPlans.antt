@@ -1,14 +1,13 @@
 -- What follows where the plan of a jump goes ahead, and what such a plan comes to.
 -- Assumes nothing.
 use mathlib.Core.Path.{_≡_, refl, sym, ap, _∙_}
-use mathlib.Core.Bool.{Bool, true, false, _&&_}
+use mathlib.Core.Bool.{Bool, true, false, cond, _&&_}
 use mathlib.Core.List.{List}
 use Prim.Native.Nat.{ℕ, _+_, _/_, _≤_, _<_}
 use lib.Dec.{leb, ltb, eqb}
 use lib.IntN.{ℤ}
 use lib.ListN.{length}
 use borrow.Author.Tests.{leb-true, ltb-true, eqb-true}
-use Rattle.op.specs.Choice.{pick}
 use Rattle.op.specs.Depths.{takenDepthOf}
 use Rattle.op.specs.declared.After.the-variants as A
 use Rattle.op.specs.declared.Operand.the-variants.{Offset}
@@ -64,7 +63,7 @@ pub mark-used : (rows : ℕ) (marks : List ℕ) (i : ℕ) (m : Mark) → markIn 
 unfolding markIn
 mark-used rows marks i m e n = go (ltb i rows) refl e
   where
-    go : (t : Bool) → ltb i rows ≡ t → pick t (markAt marks i) Absent ≡ m → (i < rows) × (markAt marks i ≡ m)
+    go : (t : Bool) → ltb i rows ≡ t → cond t (markAt marks i) Absent ≡ m → (i < rows) × (markAt marks i ≡ m)
     go true q h = (ltb-true i rows q, h)
     go false q h = absurd (n (sym h))
 

@@ -3,11 +3,10 @@
 -- Assumes nothing.
 use mathlib.Core.Path.{_≡_, refl, sym, ap, _∙_}
 use native.Mathlib.Omega.{arith}
-use mathlib.Core.Bool.{Bool, true, false, _&&_}
+use mathlib.Core.Bool.{Bool, true, false, cond, _&&_}
 use Prim.Native.Nat.{ℕ, _-_, _/_, _≤_}
 use lib.Dec.{leb, eqb}
 use borrow.Author.Tests.{leb-true, eqb-true}
-use Rattle.op.specs.Choice.{pick}
 use Rattle.op.specs.Opcodes.{known, rowOf}
 use Rattle.op.specs.Effects.{effectOf, effectBy, ruleIn, formerOf, lastOf}
 use Rattle.op.specs.Depths.{landing, lowFalling, afterOf}
@@ -72,7 +71,7 @@ refuse-go e = let z : _≡_ {A = ℕ} 0 1 = cc in omega arith
 -- an instruction that falls through has its opcode's shape
 
 by-effect : (low : Refusal) (d e : ℕ) (t s : Bool) (x : Effect)
-    → landing low d (pick t (pick s x (F.Refused WrongShape)) (F.Refused UnknownOpcode)) ≡ A.Depth e
+    → landing low d (cond t (cond s x (F.Refused WrongShape)) (F.Refused UnknownOpcode)) ≡ A.Depth e
     → (t ≡ true) × (s ≡ true)
 unfolding landing
 by-effect low d e true true x h = (refl, refl)

@@ -23,6 +23,7 @@ use Rattle.builder.specs.declared.Targeted.the-variants as G
 abbrev pub deadDepth : ℕ
 deadDepth = 65536
 
+-- R63
 abbrev pub depthNumber : Depth → ℕ
 depthNumber Dead = deadDepth
 depthNumber (Live depth) = depth
@@ -31,6 +32,7 @@ depthNumber (Live depth) = depth
 abbrev pub deadRow : ℕ
 deadRow = 18446744073709551615
 
+-- R63
 abbrev pub labelNumber : JumpLabel → ℕ
 labelNumber L.Dead = deadRow
 labelNumber (L.Row row) = row

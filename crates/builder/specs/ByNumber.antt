@@ -63,5 +63,6 @@ pub record EachCall (g : Given) : Type 0 where
   pub emit-load-local : by 15 g ≡ own (loadOp (g .a)) (loadOperand (g .a)) g
   pub emit-store-local : by 16 g ≡ own (storeOp (g .a)) (storeOperand (g .a)) g
 
+-- R65
 abbrev pub NumbersAreCalls : Type 0
 NumbersAreCalls = (g : Given) → EachCall g

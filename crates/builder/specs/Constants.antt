@@ -1,10 +1,10 @@
 -- Constants: R23, R41, refusal 9 (R27).
 -- Assumes nothing.
+use mathlib.Core.Bool.{cond}
 use mathlib.Core.List.{List, [], _∷_}
 use Prim.Native.Nat.{ℕ, _+_}
 use lib.Dec.{leb}
 use lib.ListN.{length}
-use Rattle.op.specs.Choice.{pick}
 use Rattle.op.specs.declared.Refusal.the-variants.{TooManyConstants, Full, Unsound}
 use Rattle.op.specs.declared.Table.the-variants.{Constants}
 use Rattle.builder.specs.declared.Added.{Added}
@@ -35,9 +35,9 @@ withConstants builder constants = record {
 -- 19, "65,536 or more constants are held", 18; the value at the used end, and its index (R23, R41)
 unfoldable pub addConstOf : (builder : Builder) (value : ℕ) (cells : List ℕ) → AddedKept
 addConstOf builder value cells =
-    pick (countsOf builder (cellsWithin (builder .constants) (length cells)))
-    (pick (leb (builder .constants) wordMax)
-    (pick (cellRoom (builder .constants) (length cells))
+    cond (countsOf builder (cellsWithin (builder .constants) (length cells)))
+    (cond (leb (builder .constants) wordMax)
+    (cond (cellRoom (builder .constants) (length cells))
     (addedKept
     (N.Made (withConstants builder (builder .constants + 1)) (builder .constants))
     (put (builder .constants) (value ∷ []) cells))

@@ -1,11 +1,11 @@
 -- The model of emission: answer, state and tables after an emitting call: builder.rs, `emit_with_operand` and the calls
 -- over it.
 -- Assumes nothing.
+use mathlib.Core.Bool.{cond}
 use mathlib.Core.List.{List}
 use Prim.Native.Nat.{ℕ, _+_}
 use lib.Dec.{leb}
 use lib.ListN.{length}
-use Rattle.op.specs.Choice.{pick}
 use Rattle.op.specs.Chosen.{LoadLocal0, LoadLocal, LoadLocalW, StoreLocal, StoreLocalW}
 use Rattle.op.specs.declared.Operand.{Operand}
 use Rattle.op.specs.declared.Operand.the-variants as O
@@ -88,14 +88,14 @@ emitOf builder opcode operand names code locations = emitNamed builder opcode 0 
 
 -- builder.rs, `emit_load_local`: "using specialized variants for common slots", 0 to 3; a byte; a word (R36)
 abbrev pub loadOp : ℕ → ℕ
-loadOp slot = pick (leb slot 3) (LoadLocal0 + slot) (pick (leb slot 255) LoadLocal LoadLocalW)
+loadOp slot = cond (leb slot 3) (LoadLocal0 + slot) (cond (leb slot 255) LoadLocal LoadLocalW)
 
 abbrev pub loadOperand : ℕ → Operand
-loadOperand slot = pick (leb slot 3) O.None (pick (leb slot 255) (O.U8 slot) (O.U16 slot))
+loadOperand slot = cond (leb slot 3) O.None (cond (leb slot 255) (O.U8 slot) (O.U16 slot))
 
 -- builder.rs, `emit_store_local`: "using wide variant for slots > 255" (R36)
 abbrev pub storeOp : ℕ → ℕ
-storeOp slot = pick (leb slot 255) StoreLocal StoreLocalW
+storeOp slot = cond (leb slot 255) StoreLocal StoreLocalW
 
 abbrev pub storeOperand : ℕ → Operand
-storeOperand slot = pick (leb slot 255) (O.U8 slot) (O.U16 slot)
+storeOperand slot = cond (leb slot 255) (O.U8 slot) (O.U16 slot)

@@ -1,11 +1,10 @@
 -- Marks, and how far a jump goes: R16, R24, R39, refusals 6, 13, 14, 17 and 19 (R27).
 -- Assumes nothing.
-use mathlib.Core.Bool.{_&&_, Bool, true, false, _||_}
+use mathlib.Core.Bool.{cond, _&&_, Bool, true, false, _||_}
 use mathlib.Core.List.{List, [], _∷_}
 use Prim.Native.Nat.{ℕ, _+_, _*_, _-_, _%_, zero, suc}
 use lib.Dec.{leb, eqb, ltb}
 use lib.ListN.{length, getD}
-use Rattle.op.specs.Choice.{pick}
 use Rattle.op.specs.declared.Refusal.the-variants.{Full, Unsound}
 use Rattle.op.specs.declared.Table.the-variants.{Marks}
 use Rattle.builder.specs.declared.Builder.{Builder}
@@ -38,9 +37,9 @@ markRow kind offset depth = kind ∷ offset ∷ depth ∷ 0 ∷ []
 -- R24
 unfoldable pub markOf : (kind offset depth : ℕ) → Mark
 markOf kind offset depth =
-    pick (eqb kind openKind) (Open offset depth)
-    (pick (eqb kind patchedKind) (Patched offset depth)
-    (pick (eqb kind targetKind) (Target offset depth) Absent))
+    cond (eqb kind openKind) (Open offset depth)
+    (cond (eqb kind patchedKind) (Patched offset depth)
+    (cond (eqb kind targetKind) (Target offset depth) Absent))
 
 -- the mark in a row
 abbrev pub markAt : (marks : List ℕ) (row : ℕ) → Mark
@@ -49,7 +48,7 @@ markAt marks row =
 
 -- the same, of the used rows
 unfoldable pub markIn : (rows : ℕ) (marks : List ℕ) (row : ℕ) → Mark
-markIn rows marks row = pick (ltb row rows) (markAt marks row) Absent
+markIn rows marks row = cond (ltb row rows) (markAt marks row) Absent
 
 -- one of two answers: for a target's mark, by its offset and depth, or for any other
 abbrev pub ofTarget : {A : Type 0} → Mark → (ℕ → ℕ → A) → A → A
@@ -110,7 +109,7 @@ abbrev pub targetAt : Depth → (builder : Builder) (marks : List ℕ) → Targe
 targetAt Dead builder marks = targetOutcome (G.Made builder T.Dead) marks
 targetAt (Live here) builder marks =
     let core = builder .core in
-    pick (room markCells (core .marks) (length marks))
+    cond (room markCells (core .marks) (length marks))
     (targetOutcome
     (G.Made (withCore builder (withMarks core (core .marks + 1))) (T.Row (core .marks)))
     (push markCells (core .marks) (markRow targetKind (core .code) here) marks))
@@ -119,7 +118,7 @@ targetAt (Live here) builder marks =
 -- "19, their own refusals, 18"; dead, nothing is wanted (R39)
 unfoldable pub targetOf : (builder : Builder) (marks : List ℕ) → TargetOutcome
 targetOf builder marks =
-    pick (countsOf builder (within markCells (builder .core .marks) (length marks)))
+    cond (countsOf builder (within markCells (builder .core .marks) (length marks)))
     (targetAt (builder .core .depth) builder marks)
     (targetOutcome (G.Refused Unsound) marks)
 

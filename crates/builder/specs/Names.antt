@@ -1,11 +1,10 @@
 -- The names of local slots, and `build`: R23, R40, R43, refusals 16 and 17 (R27).
 -- Assumes nothing.
-use mathlib.Core.Bool.{_&&_}
+use mathlib.Core.Bool.{cond, _&&_}
 use mathlib.Core.List.{List, [], _∷_, _++_, map}
 use Prim.Native.Nat.{ℕ, _+_, _-_}
 use lib.Dec.{leb, ltb, eqb}
 use lib.ListN.{length, take, drop, getD, set, replicate}
-use Rattle.op.specs.Choice.{pick}
 use Rattle.op.specs.declared.Refusal.the-variants.{NamesHeld, OpenLabel, Full, Unsound}
 use Rattle.op.specs.declared.Table.the-variants.{Names}
 use Rattle.builder.specs.declared.Answer.the-variants.{Accepted, Refused}
@@ -43,13 +42,13 @@ extension absent name = replicate absent 0 ++ nameCell name ∷ []
 
 -- "and never overwrites a name"
 abbrev pub named : (cell name : ℕ) → ℕ
-named cell name = pick (eqb cell 0) (nameCell name) cell
+named cell name = cond (eqb cell 0) (nameCell name) cell
 
 -- 19, 18; a slot that is held, or one past them (R40)
 unfoldable pub registerNameOf : (builder : Builder) (slot name : ℕ) (cells : List ℕ) → Kept
 registerNameOf builder slot name cells =
     unless (countsOf builder (cellsWithin (builder .names) (length cells))) Unsound cells
-    (pick (ltb slot (builder .names))
+    (cond (ltb slot (builder .names))
     (kept (Accepted builder) (set cells slot (named (getD cells slot 0) name)))
     (unless (cellRoom slot (length cells)) (Full Names) cells
     (kept
@@ -66,6 +65,6 @@ buildOf builder name cells marks =
     unless
     (countsOf builder (cellsWithin (builder .names) (length cells) && within markCells (builder .core .marks) (length marks)))
     Unsound cells
-    (pick (anyOpen (builder .core .marks) marks)
+    (cond (anyOpen (builder .core .marks) marks)
     (kept (Refused OpenLabel) cells)
     (kept (Accepted builder) (filledNames (builder .names) name cells)))

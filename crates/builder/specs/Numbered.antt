@@ -1,10 +1,10 @@
 -- The emitting calls without a jump by number, on numbers as C gives them: the instruction that each comes to.
 -- Assumes nothing.
+use mathlib.Core.Bool.{cond}
 use mathlib.Core.List.{List, [], _∷_}
 use Prim.Native.Nat.{ℕ, _%_}
 use lib.Dec.{ltb}
 use lib.ListN.{getD, length}
-use Rattle.op.specs.Choice.{pick}
 use Rattle.op.specs.Chosen.{CallAttrKw, CallBuiltinFunction, CallBuiltinType, CallFunctionKw, LoadGlobalCallable}
 use Rattle.op.specs.Opcodes.{RaiseUnboundLocal}
 use Rattle.op.specs.declared.Operand.{Operand}
@@ -23,7 +23,7 @@ plain opcode operand = Is opcode 0 operand
 
 -- where a number is below a limit
 abbrev pub below : (limit number : ℕ) → Instruction → Instruction
-below limit number instruction = pick (ltb number limit) instruction Nothing
+below limit number instruction = cond (ltb number limit) instruction Nothing
 
 abbrev pub pairOf : (opcode a b : ℕ) → Instruction
 pairOf opcode a b = below 256 a (below 256 b (plain opcode (O.U8U8 a b)))
@@ -55,7 +55,7 @@ instructions opcode a b c names =
     loadOf a ∷  -- 15 emit_load_local
     storeOf a ∷ []  -- 16 emit_store_local
 
--- the instruction of a call's number; nothing past the last
+-- the instruction of a call's number; nothing past the last (R65)
 unfoldable pub instructionOf : (call opcode a b c names : ℕ) → Instruction
 instructionOf call opcode a b c names = getD (instructions opcode a b c names) call Nothing
 
@@ -65,6 +65,7 @@ emitInstruction Nothing builder names code locations = outcome (Refused WrongSha
 emitInstruction (Is opcode name operand) builder names code locations =
     emitNamed builder opcode name operand names code locations
 
+-- R65
 unfoldable pub numberedOf : (builder : Builder) (call opcode a b c : ℕ) (names code locations : List ℕ) → Outcome
 numberedOf builder call opcode a b c names code locations =
     emitInstruction (instructionOf call opcode a b c (length names % 256)) builder names code locations

@@ -1,10 +1,9 @@
 -- What an emitting call decides: R28, "19, 1, 8, then dead code is accepted and nothing changes, then 3,
 -- taken depth 5, 12 or 13, 11, 6, 7, 2, 4, 5, and last 18: code, locations, marks".
 -- Assumes nothing.
-use mathlib.Core.Bool.{Bool, true, false, _&&_}
+use mathlib.Core.Bool.{Bool, true, false, cond, _&&_}
 use Prim.Native.Nat.{ℕ}
 use lib.Dec.{leb, eqb}
-use Rattle.op.specs.Choice.{pick}
 use Rattle.op.specs.Opcodes.{known}
 use Rattle.op.specs.Effects.{deadMaker}
 use Rattle.op.specs.Depths.{afterOf, takenDepthOf}
@@ -120,7 +119,7 @@ markFree (Back target mark) core marks = true
 
 -- "Six opcodes make the code behind them dead"
 unfoldable pub behind : (opcode next : ℕ) → Depth
-behind opcode next = pick (deadMaker opcode) Dead (Live next)
+behind opcode next = cond (deadMaker opcode) Dead (Live next)
 
 -- the displacement to a mark's place
 abbrev pub bitsTo : (mark : Mark) (at : ℕ) → ℕ

@@ -1,10 +1,9 @@
 -- The state around a change, and the answer of a call that is lent one table: R30,
 -- "19, their own refusals, 18".
 -- Assumes nothing.
-use mathlib.Core.Bool.{_&&_, Bool, true, false}
+use mathlib.Core.Bool.{cond, _&&_, Bool, true, false}
 use mathlib.Core.List.{List}
 use Prim.Native.Nat.{ℕ}
-use Rattle.op.specs.Choice.{pick}
 use Rattle.op.specs.declared.Refusal.{Refusal}
 use Rattle.builder.specs.declared.Answer.{Answer}
 use Rattle.builder.specs.declared.Answer.the-variants.{Accepted, Refused}
@@ -55,7 +54,7 @@ kept answer cells = record { answer = answer; cells = cells }
 
 -- go on where the test holds, else refuse and change nothing (R30)
 abbrev pub unless : (test : Bool) (refusal : Refusal) (cells : List ℕ) → Kept → Kept
-unless test refusal cells on = pick test on (kept (Refused refusal) cells)
+unless test refusal cells on = cond test on (kept (Refused refusal) cells)
 
 -- 19 of a call that is lent no code: "the code's count 1,048,576", and its own count (R30)
 abbrev pub countsOf : (builder : Builder) (own : Bool) → Bool

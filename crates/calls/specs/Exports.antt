@@ -2,12 +2,11 @@
 -- argument that the builder's call cannot be given: 2. Neither changes anything.
 -- Assumes nothing.
 use mathlib.Core.Path.{_≡_}
-use mathlib.Core.Bool.{Bool, true, false}
+use mathlib.Core.Bool.{Bool, true, false, cond}
 use mathlib.Core.List.{List, [], _∷_}
 use Prim.Native.Nat.{ℕ, _+_, _*_}
 use lib.Dec.{leb}
 use lib.ListN.{length}
-use Rattle.op.specs.Choice.{pick}
 use Rattle.op.specs.Refusals.{answerOf, half}
 use Rattle.op.specs.declared.Refusal.the-variants.{Full, Unsound, WrongShape}
 use Rattle.op.specs.declared.Table.the-variants.{Text}
@@ -52,7 +51,7 @@ abbrev pub answerTo : Told → ℕ
 answerTo (Accepts value after) = 0
 answerTo (Refuses number named) = number * half + named
 
--- the state's cells behind a call; a refusal changes none
+-- the state's cells behind a call; a refusal changes none (R64)
 abbrev pub cellsLeft : Told → (cells : List ℕ) → List ℕ
 cellsLeft (Accepts value after) cells = front (cellsOf after value) cells
 cellsLeft (Refuses number named) cells = cells
@@ -62,6 +61,7 @@ abbrev pub coreLeft : Told → (cells : List ℕ) → List ℕ
 coreLeft (Accepts value after) cells = front (coreOf (after .core) value) cells
 coreLeft (Refuses number named) cells = cells
 
+-- R64
 pub record Leaves (told : Told) (cells : List ℕ) (r : ℕ) (cells′ : List ℕ) : Type 0 where
   pub answers : r ≡ answerTo told
   pub state : cells′ ≡ cellsLeft told cells
@@ -134,7 +134,7 @@ setLocationIn start end flag from to cells =
     toldFocus (focusIn flag from to) (Refused WrongShape) (λ (focus : Focus).
     Accepted (withLocation builder (Set (record { start = start; end = end }) focus))))
 
--- tfb_emit
+-- tfb_emit (R64)
 unfoldable pub emitIn : (call opcode a b c : ℕ) (names cells code locations : List ℕ) → Outcome
 emitIn call opcode a b c names cells code locations =
     held (stateIn cells) (outcome (Refused Unsound) code locations) (λ (builder : Builder).
@@ -227,4 +227,4 @@ look answer out = record { answer = answer; out = out }
 unfoldable pub lookIn : (cells out : List ℕ) → Look
 lookIn cells out =
     held (stateIn cells) (look (answerOf Unsound) out) (λ (builder : Builder).
-    pick (leb lookCells (length out)) (look 0 (front (lookOf builder) out)) (look (answerOf (Full Text)) out))
+    cond (leb lookCells (length out)) (look 0 (front (lookOf builder) out)) (look (answerOf (Full Text)) out))

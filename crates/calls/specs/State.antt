@@ -2,11 +2,11 @@
 -- 5 exceptions, 6 constants, 7 names, 8 starts; 9 whether a location is set, 10 its start, 11 its end; 12 whether it has
 -- a focus, 13 its start, 14 its end; 15 and 16 are neither read nor written. The header says the same in words.
 -- Assumes nothing.
+use mathlib.Core.Bool.{cond}
 use mathlib.Core.List.{List, [], _∷_}
 use Prim.Native.Nat.{ℕ}
 use lib.Dec.{leb, ltb, eqb}
 use lib.ListN.{length, getD}
-use Rattle.op.specs.Choice.{pick}
 use Rattle.code.specs.declared.Focus.the-variants.{Absent, Present}
 use Rattle.code.specs.declared.HandlerKind.the-variants.{Consuming, Cleanup}
 use Rattle.builder.specs.Answers.{deadDepth, deadRow, depthNumber}
@@ -42,25 +42,25 @@ offsetMax = 4294967295
 
 abbrev pub depthIn : (number : ℕ) → DepthIn
 depthIn number =
-    pick (ltb number deadDepth) (D.Is (Live number))
-    (pick (eqb number deadDepth) (D.Is Dead) D.Nothing)
+    cond (ltb number deadDepth) (D.Is (Live number))
+    (cond (eqb number deadDepth) (D.Is Dead) D.Nothing)
 
 abbrev pub labelIn : (number : ℕ) → JumpLabel
-labelIn number = pick (eqb number deadRow) L.Dead (L.Row number)
+labelIn number = cond (eqb number deadRow) L.Dead (L.Row number)
 
 abbrev pub targetIn : (number : ℕ) → JumpTarget
-targetIn number = pick (eqb number deadRow) T.Dead (T.Row number)
+targetIn number = cond (eqb number deadRow) T.Dead (T.Row number)
 
 abbrev pub kindIn : (number : ℕ) → KindIn
-kindIn number = pick (eqb number 0) (K.Is Consuming) (pick (eqb number 1) (K.Is Cleanup) K.Nothing)
+kindIn number = cond (eqb number 0) (K.Is Consuming) (cond (eqb number 1) (K.Is Cleanup) K.Nothing)
 
 -- of a focus that is absent the other cells are not read
 abbrev pub focusIn : (flag start end : ℕ) → FocusIn
 focusIn flag start end =
-    pick (eqb flag 0) (F.Is Absent)
-    (pick (eqb flag 1)
-    (pick (leb start offsetMax)
-    (pick (leb end offsetMax) (F.Is (Present (record { start = start; end = end }))) F.Nothing)
+    cond (eqb flag 0) (F.Is Absent)
+    (cond (eqb flag 1)
+    (cond (leb start offsetMax)
+    (cond (leb end offsetMax) (F.Is (Present (record { start = start; end = end }))) F.Nothing)
     F.Nothing)
     F.Nothing)
 
@@ -71,9 +71,9 @@ setIn start end (F.Is focus) = P.Is (Set (record { start = start; end = end }) f
 -- of a location that is not set the other cells are not read
 abbrev pub locationIn : (set start end : ℕ) (focus : FocusIn) → LocationIn
 locationIn set start end focus =
-    pick (eqb set 0) (P.Is Unset)
-    (pick (eqb set 1)
-    (pick (leb start offsetMax) (pick (leb end offsetMax) (setIn start end focus) P.Nothing) P.Nothing)
+    cond (eqb set 0) (P.Is Unset)
+    (cond (eqb set 1)
+    (cond (leb start offsetMax) (cond (leb end offsetMax) (setIn start end focus) P.Nothing) P.Nothing)
     P.Nothing)
 
 abbrev pub stateWith : DepthIn → LocationIn → (cells : List ℕ) → State
@@ -89,10 +89,10 @@ stateWith (D.Is depth) (P.Is location) cells = S.Is (record {
 })
 
 -- the state that cells hold; none where they are too few, a flag is neither 0 nor 1, or a depth or an offset is too
--- large
+-- large (R63)
 unfoldable pub stateIn : (cells : List ℕ) → State
 stateIn cells =
-    pick (leb stateCells (length cells))
+    cond (leb stateCells (length cells))
     (stateWith
     (depthIn (getD cells 4 0))
     (locationIn (getD cells 9 0) (getD cells 10 0) (getD cells 11 0)
@@ -130,7 +130,7 @@ placeCells place =
 abbrev pub coreOf : (core : Core) (value : ℕ) → List ℕ
 coreOf core value = value ∷ core .code ∷ core .locations ∷ core .marks ∷ depthNumber (core .depth) ∷ []
 
--- a call's value and the whole state: cells 0 to 14
+-- a call's value and the whole state: cells 0 to 14 (R63)
 abbrev pub cellsOf : (builder : Builder) (value : ℕ) → List ℕ
 cellsOf builder value =
     value ∷

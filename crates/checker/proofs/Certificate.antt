@@ -2,7 +2,7 @@
 -- offset leave none. The examples rest on it.
 -- Assumes nothing.
 use mathlib.Core.Path.{_≡_, refl, sym, ap, subst, _∙_}
-use mathlib.Core.Bool.{Bool, true, false}
+use mathlib.Core.Bool.{Bool, true, false, cond}
 use mathlib.Core.List.{List, _++_}
 use mathlib.Core.Option.{some}
 use Prim.Native.Nat.{ℕ, suc, _+_, _*_, _/_, _%_, _≤_, _<_}
@@ -11,7 +11,6 @@ use native.Mathlib.Decide.{decLt}
 use lib.Dec.{T, eqb, leb, eqb→eq, leb→le}
 use lib.ListN.{length, getD, drop, take, replicate, List·getD-eq-default}
 use borrow.Author.Tests.{le-leb}
-use Rattle.op.specs.Choice.{pick}
 use Rattle.op.specs.declared.After.{After}
 use Rattle.op.specs.declared.After.the-variants as A
 use Rattle.op.specs.declared.Refusal.the-variants.{NoDepths}
@@ -23,7 +22,7 @@ use Rattle.code.specs.declared.Flowing.the-variants as F
 use Rattle.code.specs.declared.Goal.{Goal}
 use Rattle.code.specs.declared.Goal.the-variants.{Nowhere, To, Outside}
 use Rattle.code.specs.Flow.{flowOf}
-use Rattle.code.specs.Depths.{Stands, Place, first, Begins, Leads, Falls, Jumps, Kept, Assigns, Derived}
+use Rattle.code.specs.Depths.{Stands, Place, Begins, Leads, Falls, Jumps, Kept, Assigns, Derived}
 use Rattle.code.proofs.Assigning.{leads-is, smallest, clash-depths}
 use Rattle.checker.specs.declared.Checked.{Checked}
 use Rattle.checker.specs.declared.Checked.the-variants.{Accepted, Refused}
@@ -32,9 +31,8 @@ use Rattle.checker.specs.Promise.{Listed, Solution, Promise}
 use Rattle.checker.specs.Inner.{NoFault}
 use Rattle.checker.proofs.Holding.{depth-in, in-depth, cell-in}
 use Rattle.checker.proofs.Solutions.{counted}
-use Rattle.checker.proofs.Walking.{walking-none}
 use Rattle.checker.proofs.Promising.{promise-some, promise-none, promise-one}
-use Rattle.checker.proofs.Reaching.{lead, reached, has, has-in, reached-derived, walksTo, walks-place, ends, ends-whole}
+use Rattle.checker.proofs.Reaching.{lead, reached, has, has-in, reached-derived, comesTo, comes-place, ends, ends-whole}
 
 -- tests
 
@@ -66,7 +64,7 @@ jumpOk c x (To t) = holds c t x
 jumpOk c x Outside = false
 
 abbrev pub keptOk : List ℕ → ℕ → ℕ → Flowing → Bool
-keptOk c o d (F.Op f) = both (pick (f .falls) (holds c (o + f .size) (lead d (f .net))) (inRange (lead d (f .net)))) (jumpOk c (lead d (f .taken)) (f .goal))
+keptOk c o d (F.Op f) = both (cond (f .falls) (holds c (o + f .size) (lead d (f .net))) (inRange (lead d (f .net)))) (jumpOk c (lead d (f .taken)) (f .goal))
 keptOk c o d F.End = true
 keptOk c o d (F.Refused q) = true
 
@@ -80,7 +78,7 @@ module _ (c : List ℕ) (d : ℕ) (change : Change) where
   range-in (A.Refused r) h t = absurd t
 
 module _ (c : List ℕ) (o d : ℕ) (f : Flow) where
-  falls-kept : (b : Bool) → f .falls ≡ b → T (pick b (holds c (o + f .size) (lead d (f .net))) (inRange (lead d (f .net)))) → Falls (depthIn c) f o d
+  falls-kept : (b : Bool) → f .falls ≡ b → T (cond b (holds c (o + f .size) (lead d (f .net))) (inRange (lead d (f .net)))) → Falls (depthIn c) f o d
   falls-kept true fl t = let g = holds-in c d (f .net) (o + f .size) (lead d (f .net)) refl t in record { depth = g .0; leads = g .1 .0; has = λ y. g .1 .1 }
   falls-kept false fl t = let g = range-in c d (f .net) (lead d (f .net)) refl t in record { depth = g .0; leads = g .1; has = λ y. absurd (clash y fl) }
     where
@@ -94,25 +92,25 @@ module _ (c : List ℕ) (o d : ℕ) (f : Flow) where
 
   op-kept : T (keptOk c o d (F.Op f)) → Kept (depthIn c) f o d
   op-kept t =
-      let a = pick (f .falls) (holds c (o + f .size) (lead d (f .net))) (inRange (lead d (f .net))) in
+      let a = cond (f .falls) (holds c (o + f .size) (lead d (f .net))) (inRange (lead d (f .net))) in
       let b = jumpOk c (lead d (f .taken)) (f .goal) in
       record { falls = falls-kept (f .falls) refl (left a b t); jumps = jumps-kept (f .goal) refl (right a b t) }
 
 -- the test
 
 abbrev pub startOk : ℕ → List ℕ → List ℕ → ℕ → Bool
-startOk last s st k = both (leb (getD st (2 * k + 1) 0) 65535) (walksTo last (suc (length s)) s (getD st (2 * k) 0) 0)
+startOk last s st k = both (leb (getD st (2 * k + 1) 0) 65535) (comesTo last s (getD st (2 * k) 0))
 
 -- the code has no fault, and the start list can be
 abbrev pub inputOk : ℕ → List ℕ → List ℕ → Bool
-inputOk last s st = both (ends last (suc (length s)) s 0) (both (eqb (length st % 2) 0) (everyFrom (startOk last s st) 0 (length st / 2)))
+inputOk last s st = both (ends last s) (both (eqb (length st % 2) 0) (everyFrom (startOk last s st) 0 (length st / 2)))
 
 abbrev pub depthOk : ℕ → List ℕ → List ℕ → List ℕ → ℕ → ℕ → Bool
-depthOk last s st c k o = both (has o (cell c o) (reached last s st k)) (both (walksTo last (suc (length s)) s o 0) (keptOk c o (cell c o) (flowOf last o (drop o s))))
+depthOk last s st c k o = both (has o (cell c o) (reached last s st k)) (both (comesTo last s o) (keptOk c o (cell c o) (flowOf last o (drop o s))))
 
 -- a cell holds 65,536, or a depth that k steps lead to, at a place, and that is respected
 abbrev pub cellOk : ℕ → List ℕ → List ℕ → List ℕ → ℕ → ℕ → Bool
-cellOk last s st c k o = both (leb (cell c o) 65536) (pick (leb (cell c o) 65535) (depthOk last s st c k o) true)
+cellOk last s st c k o = both (leb (cell c o) 65536) (cond (leb (cell c o) 65535) (depthOk last s st c k o) true)
 
 abbrev pub startHeld : List ℕ → List ℕ → ℕ → Bool
 startHeld st c k = eqb (cell c (getD st (2 * k) 0)) (getD st (2 * k + 1) 0)
@@ -126,10 +124,10 @@ certificate last s st c k =
 
 module _ (last : ℕ) (s st : List ℕ) (t : T (inputOk last s st)) where
   t2 : T (both (eqb (length st % 2) 0) (everyFrom (startOk last s st) 0 (length st / 2)))
-  t2 = right (ends last (suc (length s)) s 0) (both (eqb (length st % 2) 0) (everyFrom (startOk last s st) 0 (length st / 2))) t
+  t2 = right (ends last s) (both (eqb (length st % 2) 0) (everyFrom (startOk last s st) 0 (length st / 2))) t
 
   pub input-whole : NoFault last s
-  input-whole = ends-whole (suc (length s)) s 0 (walking-none s) (left (ends last (suc (length s)) s 0) (both (eqb (length st % 2) 0) (everyFrom (startOk last s st) 0 (length st / 2))) t)
+  input-whole = ends-whole last s (left (ends last s) (both (eqb (length st % 2) 0) (everyFrom (startOk last s st) 0 (length st / 2))) t)
 
   pub input-listed : Listed last s st
   input-listed = record {
@@ -137,8 +135,8 @@ module _ (last : ℕ) (s st : List ℕ) (t : T (inputOk last s st)) where
     good = λ k l.
         let i = in-range (startOk last s st) 0 (length st / 2) k (omega arith) (omega arith) (right (eqb (length st % 2) 0) (everyFrom (startOk last s st) 0 (length st / 2)) t2) in
         let a = leb (getD st (2 * k + 1) 0) 65535 in
-        let b = walksTo last (suc (length s)) s (getD st (2 * k) 0) 0 in
-        (leb→le (getD st (2 * k + 1) 0) 65535 (left a b i), walks-place (suc (length s)) s (getD st (2 * k) 0) 0 first (right a b i));
+        let b = comesTo last s (getD st (2 * k) 0) in
+        (leb→le (getD st (2 * k + 1) 0) 65535 (left a b i), comes-place last s (getD st (2 * k) 0) (right a b i));
   }
 
 -- what the test shows
@@ -155,35 +153,35 @@ module _ (last : ℕ) (s st c : List ℕ) (k : ℕ) (input : T (inputOk last s s
 
   cell-small : (o : ℕ) → cell c o ≤ 65536
   cell-small o = elim (decLt o (length c)) [
-    | yes l ↦ leb→le (cell c o) 65536 (left (leb (cell c o) 65536) (pick (leb (cell c o) 65535) (depthOk last s st c k o) true) (cell-ok o l))
+    | yes l ↦ leb→le (cell c o) 65536 (left (leb (cell c o) 65536) (cond (leb (cell c o) 65535) (depthOk last s st c k o) true) (cell-ok o l))
     | no l ↦ (let z : cell c o ≡ 65536 = List·getD-eq-default c 65536 (omega arith) in omega arith)
   ]
 
   deep : (o : ℕ) → cell c o ≤ 65535 → T (depthOk last s st c k o)
   deep o h =
       let l = cell-in c o (λ z. omega arith) in
-      let t = right (leb (cell c o) 65536) (pick (leb (cell c o) 65535) (depthOk last s st c k o) true) (cell-ok o l) in
-      subst (λ (b : Bool). T (pick b (depthOk last s st c k o) true)) (le-leb (cell c o) 65535 h) t
+      let t = right (leb (cell c o) 65536) (cond (leb (cell c o) 65535) (depthOk last s st c k o) true) (cell-ok o l) in
+      subst (λ (b : Bool). T (cond b (depthOk last s st c k o) true)) (le-leb (cell c o) 65535 h) t
 
   deep-rest : (o : ℕ) → cell c o ≤ 65535
-      → T (both (walksTo last (suc (length s)) s o 0) (keptOk c o (cell c o) (flowOf last o (drop o s))))
-  deep-rest o h = right (has o (cell c o) (reached last s st k)) (both (walksTo last (suc (length s)) s o 0) (keptOk c o (cell c o) (flowOf last o (drop o s)))) (deep o h)
+      → T (both (comesTo last s o) (keptOk c o (cell c o) (flowOf last o (drop o s))))
+  deep-rest o h = right (has o (cell c o) (reached last s st k)) (both (comesTo last s o) (keptOk c o (cell c o) (flowOf last o (drop o s)))) (deep o h)
 
   cell-derived : (o d : ℕ) → depthIn c o ≡ some d → Derived last s st o d
   cell-derived o d e =
       let i = in-depth c o d e in
-      let t = left (has o (cell c o) (reached last s st k)) (both (walksTo last (suc (length s)) s o 0) (keptOk c o (cell c o) (flowOf last o (drop o s)))) (deep o (omega arith)) in
+      let t = left (has o (cell c o) (reached last s st k)) (both (comesTo last s o) (keptOk c o (cell c o) (flowOf last o (drop o s)))) (deep o (omega arith)) in
       subst (λ (x : ℕ). Derived last s st o x) (i .0) (reached-derived s st k o (cell c o) (has-in o (cell c o) (reached last s st k) t))
 
   cell-place : (o d : ℕ) → depthIn c o ≡ some d → Place last s o × (d ≤ 65535)
   cell-place o d e =
       let i = in-depth c o d e in
-      (walks-place (suc (length s)) s o 0 first (left (walksTo last (suc (length s)) s o 0) (keptOk c o (cell c o) (flowOf last o (drop o s))) (deep-rest o (omega arith))), i .1)
+      (comes-place last s o (left (comesTo last s o) (keptOk c o (cell c o) (flowOf last o (drop o s))) (deep-rest o (omega arith))), i .1)
 
   cell-kept : (o d : ℕ) (f : Flow) → depthIn c o ≡ some d → Stands last s o f → Kept (depthIn c) f o d
   cell-kept o d f e h =
       let i = in-depth c o d e in
-      let t = right (walksTo last (suc (length s)) s o 0) (keptOk c o (cell c o) (flowOf last o (drop o s))) (deep-rest o (omega arith)) in
+      let t = right (comesTo last s o) (keptOk c o (cell c o) (flowOf last o (drop o s))) (deep-rest o (omega arith)) in
       subst (λ (x : ℕ). Kept (depthIn c) f o x) (i .0) (op-kept c o (cell c o) f (subst (λ (x : Flowing). T (keptOk c o (cell c o) x)) (h .is) t))
 
   start-held : (o d : ℕ) → Begins st o d → depthIn c o ≡ some d

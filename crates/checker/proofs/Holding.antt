@@ -1,7 +1,7 @@
 -- Laws of cells: what a store changes, cells as an assignment, and how many hold a depth.
 -- Assumes nothing.
 use mathlib.Core.Path.{_≡_, refl, sym, subst}
-use mathlib.Core.Bool.{Bool, true, false}
+use mathlib.Core.Bool.{Bool, true, false, cond}
 use mathlib.Core.List.{List, [], _∷_, _++_}
 use mathlib.Core.Option.{some, none}
 use Prim.Native.Nat.{ℕ, zero, suc, _+_, _≤_, _<_}
@@ -12,7 +12,6 @@ use lib.Dec.{leb}
 use lib.ListN.{length, getD, set, List·getD-eq-default}
 use lib.Seq.{getD-set-same, getD-set-other}
 use borrow.Author.Tests.{le-leb, lt-leb, leb-true}
-use Rattle.op.specs.Choice.{pick}
 use Rattle.checker.specs.Cells.{cell, depthIn, held}
 
 -- cells as an assignment
@@ -21,7 +20,7 @@ pub depth-in : (c : List ℕ) (o d : ℕ) → cell c o ≡ d → d ≤ 65535 →
 unfolding depthIn
 depth-in c o d e l = rw (e, le-leb d 65535 l)
 
-picked : (b : Bool) (x d : ℕ) → pick b (some x) none ≡ some d → (b ≡ true) × (x ≡ d)
+picked : (b : Bool) (x d : ℕ) → cond b (some x) none ≡ some d → (b ≡ true) × (x ≡ d)
 picked true x d e = (refl, cc)
 picked false x d e = let z : _≡_ {A = ℕ} 0 1 = cc in absurd (omega arith)
 
@@ -70,7 +69,7 @@ unfolding held
 held-le [] = omega arith
 held-le (x ∷ c) = let h = held-le c in one (leb x 65535) (held c) (length c) h
   where
-    one : (b : Bool) (p q : ℕ) → p ≤ q → pick b 1 0 + p ≤ suc q
+    one : (b : Bool) (p q : ℕ) → p ≤ q → cond b 1 0 + p ≤ suc q
     one true p q l = omega arith
     one false p q l = omega arith
 

@@ -1,19 +1,21 @@
--- What antt can compute of paths and of the walk over the code: depths that some steps from the starts lead to, offsets that the walk
--- comes to. The certificate of an assignment rests on it.
+-- What antt can compute of paths and of the reading of the code: depths that some steps from the starts lead to, offsets that
+-- reading comes to. The certificate of an assignment rests on it.
 -- Assumes nothing.
 use mathlib.Core.Path.{_≡_, refl, sym, ap, subst, _∙_}
-use mathlib.Core.Bool.{Bool, true, false}
+use mathlib.Core.Bool.{Bool, true, false, cond}
 use mathlib.Core.List.{List, [], _∷_, _++_, List·Memᴰ, List·Memᴰ·head, List·Memᴰ·tail, List·Memᴰ·cases-cons, List·Memᴰ·not-nil, List·Memᴰ·append-cases}
 use mathlib.Core.Logic.{⊎-elim}
+use mathlib.Core.Option.{Option, some, none}
 use Prim.Native.Nat.{ℕ, zero, suc, _+_, _*_}
 use native.Mathlib.Omega.{arith}
 use lib.Dec.{T, eqb, eqb→eq}
 use lib.ListN.{drop}
-use Rattle.op.specs.Choice.{pick}
+use Rattle.op.specs.Choice.{isIn}
 use Rattle.op.specs.Depths.{landing, lowFalling}
 use Rattle.op.specs.declared.After.{After}
 use Rattle.op.specs.declared.After.the-variants as A
 use Rattle.op.specs.declared.Effect.the-variants as E
+use Rattle.op.specs.declared.Refusal.{Refusal}
 use Rattle.code.specs.declared.Change.{Change}
 use Rattle.code.specs.declared.Flow.{Flow}
 use Rattle.code.specs.declared.Flowing.{Flowing}
@@ -21,11 +23,10 @@ use Rattle.code.specs.declared.Flowing.the-variants as F
 use Rattle.code.specs.declared.Goal.{Goal}
 use Rattle.code.specs.declared.Goal.the-variants.{Nowhere, To, Outside}
 use Rattle.code.specs.Flow.{flowOf}
-use Rattle.code.specs.Depths.{Stands, Place, next, Begins, Derived, start, fall, jump}
-use Rattle.code.proofs.Places.{stands-size}
+use Rattle.code.specs.Reading.{instructionsIn, placesIn}
+use Rattle.code.specs.Depths.{Stands, Place, Begins, Derived, start, fall, jump}
 use Rattle.checker.specs.declared.Checked.the-variants.{Refused}
 use Rattle.checker.specs.Inner.{NoFault}
-use Rattle.checker.proofs.Walking.{stands-sized, Walking, walking-on, walked-all}
 
 -- depths that paths of at most k steps lead to
 
@@ -46,7 +47,7 @@ leaps d c (To t) = gives t (lead d c)
 leaps d c Outside = []
 
 abbrev pub onward : ℕ → ℕ → Flowing → List Given
-onward o d (F.Op f) = pick (f .falls) (gives (o + f .size) (lead d (f .net))) [] ++ leaps d (f .taken) (f .goal)
+onward o d (F.Op f) = cond (f .falls) (gives (o + f .size) (lead d (f .net))) [] ++ leaps d (f .taken) (f .goal)
 onward o d F.End = []
 onward o d (F.Refused q) = []
 
@@ -65,14 +66,14 @@ reached last s st (suc k) = pairs st ++ steps last s (reached last s st k)
 
 abbrev pub has : ℕ → ℕ → List Given → Bool
 has o d [] = false
-has o d (given q e ∷ xs) = pick (eqb o q) (pick (eqb d e) true (has o d xs)) (has o d xs)
+has o d (given q e ∷ xs) = cond (eqb o q) (cond (eqb d e) true (has o d xs)) (has o d xs)
 
 pub has-in : (o d : ℕ) (xs : List Given) → T (has o d xs) → List·Memᴰ (given o d) xs
 has-in o d [] t = absurd t
 has-in o d (given q e ∷ xs) t = one (eqb o q) (eqb d e) refl refl (has-in o d xs) t
   where
     one : (a b : Bool) → eqb o q ≡ a → eqb d e ≡ b → (T (has o d xs) → List·Memᴰ (given o d) xs)
-        → T (pick a (pick b true (has o d xs)) (has o d xs)) → List·Memᴰ (given o d) (given q e ∷ xs)
+        → T (cond a (cond b true (has o d xs)) (has o d xs)) → List·Memᴰ (given o d) (given q e ∷ xs)
     one true true ea eb later t =
         let x : o ≡ q = eqb→eq o q (subst T (sym ea) tt) in
         let y : d ≡ e = eqb→eq d e (subst T (sym eb) tt) in
@@ -105,7 +106,7 @@ gives-in t (A.Refused r) q e m = absurd (List·Memᴰ·not-nil m)
 module _ {last : ℕ} (s st : List ℕ) where
   module _ (o d : ℕ) (D : Derived last s st o d) (f : Flow) (h : Stands last s o f) (q e : ℕ) where
     falls-derived : (b : Bool) → f .falls ≡ b
-        → List·Memᴰ (given q e) (pick b (gives (o + f .size) (lead d (f .net))) []) → Derived last s st q e
+        → List·Memᴰ (given q e) (cond b (gives (o + f .size) (lead d (f .net))) []) → Derived last s st q e
     falls-derived true fl m = let g = gives-in (o + f .size) (lead d (f .net)) q e m in fall D h fl (g .1) (g .0)
     falls-derived false fl m = absurd (List·Memᴰ·not-nil m)
 
@@ -119,7 +120,7 @@ module _ {last : ℕ} (s st : List ℕ) where
   onward-derived o d D (F.Op f) h q e m =
       let w : Stands last s o f = record { is = h } in
       ⊎-elim (falls-derived o d D f w q e (f .falls) refl) (leaps-derived o d D f w q e (f .goal) refl)
-      (List·Memᴰ·append-cases (pick (f .falls) (gives (o + f .size) (lead d (f .net))) []) m)
+      (List·Memᴰ·append-cases (cond (f .falls) (gives (o + f .size) (lead d (f .net))) []) m)
   onward-derived o d D F.End h q e m = absurd (List·Memᴰ·not-nil m)
   onward-derived o d D (F.Refused r) h q e m = absurd (List·Memᴰ·not-nil m)
 
@@ -136,56 +137,30 @@ module _ {last : ℕ} (s st : List ℕ) where
   reached-derived (suc k) o d m =
       ⊎-elim (λ j. start (begins-in st o d j)) (steps-derived (reached last s st k) (reached-derived k) o d) (List·Memᴰ·append-cases (pairs st) m)
 
--- the walk over the code
+-- the reading of the code, as tests
 
-abbrev pub walkOn : (ℕ → Bool) → ℕ → ℕ → Flowing → Bool
-walkOn more o at (F.Op f) = pick (eqb o at) true (more (at + f .size))
-walkOn more o at F.End = eqb o at
-walkOn more o at (F.Refused q) = false
-
--- walking at most k instructions from `at` on comes to o
-abbrev pub walksTo : ℕ → ℕ → List ℕ → ℕ → ℕ → Bool
-walksTo last zero s o at = false
-walksTo last (suc k) s o at = walkOn (walksTo last k s o) o at (flowOf last at (drop at s))
-
-pub walks-place : {last : ℕ} (k : ℕ) (s : List ℕ) (o at : ℕ) → Place last s at → T (walksTo last k s o at)
-    → Place last s o
-walks-place zero s o at p t = absurd t
-walks-place {last} (suc k) s o at p t = one (flowOf last at (drop at s)) refl (λ q. walks-place k s o q) t
+is-in : (o : ℕ) (xs : List ℕ) → T (isIn o xs) → List·Memᴰ o xs
+is-in o [] t = absurd t
+is-in o (x ∷ xs) t = one (eqb o x) refl (is-in o xs) t
   where
-    same : T (eqb o at) → Place last s o
-    same t = subst (λ (x : ℕ). Place last s x) (sym (eqb→eq o at t)) p
+    one : (b : Bool) → eqb o x ≡ b → (T (isIn o xs) → List·Memᴰ o xs) → T (cond b true (isIn o xs)) → List·Memᴰ o (x ∷ xs)
+    one true e later t = List·Memᴰ·head (eqb→eq o x (subst T (sym e) tt))
+    one false e later t = List·Memᴰ·tail (later t)
 
-    two : (b : Bool) → eqb o at ≡ b → (f : Flow) → Stands last s at f
-        → ((q : ℕ) → Place last s q → T (walksTo last k s o q) → Place last s o)
-        → T (pick b true (walksTo last k s o (at + f .size))) → Place last s o
-    two true e f h later t = same (subst T (sym e) tt)
-    two false e f h later t = later (at + f .size) (next p h refl) t
+-- it comes to o
+abbrev pub comesTo : ℕ → List ℕ → ℕ → Bool
+comesTo last s o = isIn o (placesIn (instructionsIn last s))
 
-    one : (x : Flowing) → flowOf last at (drop at s) ≡ x
-        → ((q : ℕ) → Place last s q → T (walksTo last k s o q) → Place last s o)
-        → T (walkOn (walksTo last k s o) o at x) → Place last s o
-    one (F.Op f) e later t = two (eqb o at) refl f (record { is = e }) later t
-    one F.End e later t = same t
-    one (F.Refused q) e later t = absurd t
-
-abbrev pub endOn : (ℕ → Bool) → ℕ → Flowing → Bool
-endOn more at (F.Op f) = more (at + f .size)
-endOn more at F.End = true
-endOn more at (F.Refused q) = false
+pub comes-place : (last : ℕ) (s : List ℕ) (o : ℕ) → T (comesTo last s o) → Place last s o
+comes-place last s o t = record { is = is-in o (placesIn (instructionsIn last s)) t }
 
 -- it comes to the end
-abbrev pub ends : ℕ → ℕ → List ℕ → ℕ → Bool
-ends last zero s at = false
-ends last (suc k) s at = endOn (ends last k s) at (flowOf last at (drop at s))
+abbrev none-met : Option Refusal → Bool
+none-met none = true
+none-met (some q) = false
 
-pub ends-whole : {last : ℕ} (k : ℕ) (s : List ℕ) (at : ℕ) → Walking last s at → T (ends last k s at) → NoFault last s
-ends-whole zero s at W t = absurd t
-ends-whole {last} (suc k) s at W t = one (flowOf last at (drop at s)) refl (λ q. ends-whole k s q) t
-  where
-    one : (x : Flowing) → flowOf last at (drop at s) ≡ x
-        → ((q : ℕ) → Walking last s q → T (ends last k s q) → NoFault last s) → T (endOn (ends last k s) at x)
-        → NoFault last s
-    one (F.Op f) e later t = later (at + f .size) (let h : Stands last s at f = record { is = e } in walking-on W (stands-sized h) (λ y. omega (arith, stands-size h))) t
-    one F.End e later t = walked-all W e
-    one (F.Refused q) e later t = absurd t
+abbrev pub ends : ℕ → List ℕ → Bool
+ends last s = none-met (instructionsIn last s .fault)
+
+pub ends-whole : (last : ℕ) (s : List ℕ) → T (ends last s) → NoFault last s
+ends-whole last s t q A = subst (λ (x : Option Refusal). T (none-met x)) (A .is) t

@@ -1,7 +1,7 @@
 -- From the parts of the work to the smallest assignment, its cells and its count.
 -- Assumes nothing.
 use mathlib.Core.Path.{_≡_, refl, sym, ap, subst, _∙_}
-use mathlib.Core.Bool.{Bool, true, false}
+use mathlib.Core.Bool.{Bool, true, false, cond}
 use mathlib.Core.List.{List, [], _∷_, List·Memᴰ, List·Memᴰ·head, List·Memᴰ·tail, List·Memᴰ·cases-cons, List·Memᴰ·not-nil}
 use mathlib.Core.Logic.{_⊎_, ⊎-elim, inl, inr}
 use mathlib.Core.Option.{Option, some}
@@ -13,7 +13,6 @@ use lib.Dec.{leb}
 use lib.ListN.{length, getD, take, drop, replicate, length-replicate, getD-replicate, List·getD-eq-default}
 use lib.Seq.{length-take-le, getD-take}
 use borrow.Author.Tests.{le-leb, leb-true}
-use Rattle.op.specs.Choice.{pick}
 use Rattle.code.specs.declared.Flow.{Flow}
 use Rattle.code.specs.declared.Flowing.{Flowing}
 use Rattle.code.specs.declared.Flowing.the-variants as F
@@ -21,7 +20,7 @@ use Rattle.code.specs.Flow.{flowOf}
 use Rattle.code.specs.Depths.{Stands, Place, Begins, Kept, Assigns, Impossible, Derived, Rising, Counts}
 use Rattle.code.proofs.Assigning.{smallest}
 use Rattle.code.proofs.Counting.{rising-lower}
-use Rattle.code.proofs.Places.{stands-size, ends-over}
+use Rattle.code.proofs.Places.{stands-size, ends-over, faulty-at}
 use Rattle.checker.specs.Cells.{cell, depthIn, held}
 use Rattle.checker.specs.Promise.{Solution}
 use Rattle.checker.specs.Inner.{Sound, KeptAt, NoFault, Marked, Placed, Settled, Cleaned}
@@ -102,14 +101,14 @@ module _ {c c′ : List ℕ} (B : Cleaned c c′ (length c)) where
 
 offsets : ℕ → List ℕ → List ℕ
 offsets i [] = []
-offsets i (x ∷ c) = pick (leb x 65535) (i ∷ offsets (suc i) c) (offsets (suc i) c)
+offsets i (x ∷ c) = cond (leb x 65535) (i ∷ offsets (suc i) c) (offsets (suc i) c)
 
 offsets-length : (i : ℕ) (c : List ℕ) → held c ≡ length (offsets i c)
 unfolding offsets held
 offsets-length i [] = refl
 offsets-length i (x ∷ c) = one (leb x 65535) (offsets-length (suc i) c)
   where
-    one : (b : Bool) → held c ≡ length (offsets (suc i) c) → pick b 1 0 + held c ≡ length (pick b (i ∷ offsets (suc i) c) (offsets (suc i) c))
+    one : (b : Bool) → held c ≡ length (offsets (suc i) c) → cond b 1 0 + held c ≡ length (cond b (i ∷ offsets (suc i) c) (offsets (suc i) c))
     one true e = omega arith
     one false e = omega arith
 
@@ -118,7 +117,7 @@ unfolding offsets
 offsets-rising i [] = tt
 offsets-rising i (x ∷ c) = one (leb x 65535) (offsets-rising (suc i) c)
   where
-    one : (b : Bool) → Rising (suc i) (offsets (suc i) c) → Rising i (pick b (i ∷ offsets (suc i) c) (offsets (suc i) c))
+    one : (b : Bool) → Rising (suc i) (offsets (suc i) c) → Rising i (cond b (i ∷ offsets (suc i) c) (offsets (suc i) c))
     one true r = (omega arith, r)
     one false r = rising-lower i (suc i) (offsets (suc i) c) (omega arith) r
 
@@ -138,7 +137,7 @@ offsets-deep i [] o m = absurd (List·Memᴰ·not-nil m)
 offsets-deep i (x ∷ c) o m = one (leb x 65535) refl (λ j. deep-more i x c o (offsets-deep (suc i) c o j)) m
   where
     one : (b : Bool) → leb x 65535 ≡ b → (List·Memᴰ o (offsets (suc i) c) → Deep i (x ∷ c) o)
-        → List·Memᴰ o (pick b (i ∷ offsets (suc i) c) (offsets (suc i) c)) → Deep i (x ∷ c) o
+        → List·Memᴰ o (cond b (i ∷ offsets (suc i) c) (offsets (suc i) c)) → Deep i (x ∷ c) o
     one true e later k = ⊎-elim (λ z. record { steps = 0; is = omega arith; inside = omega arith; holds = leb-true x 65535 e }) later (List·Memᴰ·cases-cons k)
     one false e later k = later k
 
@@ -148,7 +147,7 @@ offsets-all i [] j o w l h = absurd (not-suc-le-zero l)
 offsets-all i (x ∷ c) zero o w l h = rw (le-leb x 65535 h) (List·Memᴰ·head {x = i} (omega arith))
 offsets-all i (x ∷ c) (suc j) o w l h = one (leb x 65535) (offsets-all (suc i) c j o (omega arith) (le-of-suc-le-suc l) h)
   where
-    one : (b : Bool) → List·Memᴰ o (offsets (suc i) c) → List·Memᴰ o (pick b (i ∷ offsets (suc i) c) (offsets (suc i) c))
+    one : (b : Bool) → List·Memᴰ o (offsets (suc i) c) → List·Memᴰ o (cond b (i ∷ offsets (suc i) c) (offsets (suc i) c))
     one true m = List·Memᴰ·tail m
     one false m = m
 
@@ -157,7 +156,7 @@ stands-by : {last : ℕ} (s : List ℕ) (o : ℕ) (x : Flowing) → flowOf last 
     → Place last s o → o < length s → (f : Flow) × Stands last s o f
 stands-by s o (F.Op f) e whole p l = (f, record { is = e })
 stands-by {last} s o F.End e whole p l = absurd (omega (arith, ends-over last s o e))
-stands-by s o (F.Refused q) e whole p l = absurd (whole q (record { offset = o; place = p; fault = e }))
+stands-by s o (F.Refused q) e whole p l = absurd (whole q (faulty-at p e))
 
 module _ {last : ℕ} {s st : List ℕ} (c : List ℕ) (whole : NoFault last s) (A : Assigns last s st (depthIn c)) (size : length c ≡ suc (length s)) where
   fits : length (take (length s) c) ≡ length s

@@ -20,9 +20,9 @@ use Rattle.code.specs.declared.Step.{Step}
 use Rattle.code.specs.declared.Step.the-variants.{Instr, End, Refused}
 use Rattle.code.specs.Decode.{decode}
 use Rattle.code.specs.Flow.{flowBy, flowOf}
-use Rattle.code.specs.Depths.{Stands, Place, first, next, Derived, start}
+use Rattle.code.specs.Depths.{Stands, Place, Derived, start}
 use Rattle.code.proofs.Flows.{flow-op, flow-end, flow-refused}
-use Rattle.code.proofs.Places.{stands-size, stands-no-fault, ends-over, place-le, gap, between}
+use Rattle.code.proofs.Places.{stands-size, stands-no-fault, ends-over, first, next, place-le, gap, between, faulty-at, whole-at}
 use Rattle.checker.specs.Cells.{cell, depthIn}
 use Rattle.checker.specs.Promise.{Listed}
 use Rattle.checker.specs.Inner.{Sound, Visited, Sized, stopOf, NoFault, Walked, Marked, Placed}
@@ -55,43 +55,29 @@ module _ {last : ℕ} {s : List ℕ} {at : ℕ} where
     next-after : Place last s at → (o : ℕ) → Place last s o → o < at + z → (o < at) ⊎ (o ≡ at)
     next-after p o q l = let g = Z .stands n in let e = g .1 .1 in between p (g .1 .0) q (omega arith)
 
--- a walk for faults: at is a place, and an instruction stands at each place below it
+-- a walk for faults: it is at a place
 
 pub record Walking (last : ℕ) (s : List ℕ) (at : ℕ) : Type 0 where
   pub here : Place last s at
   pub inside : at ≤ length s
-  pub below : (o : ℕ) → Place last s o → o < at → (f : Flow) × Stands last s o f
 
 pub walking-none : {last : ℕ} (s : List ℕ) → Walking last s 0
-walking-none s = record { here = first; inside = omega arith; below = λ o p l. absurd (not-suc-le-zero l) }
+walking-none s = record { here = first; inside = omega arith }
 
 pub walking-on : {last : ℕ} {s : List ℕ} {at z : ℕ} → Walking last s at → Sized last s at z → (z ≡ 0 → ⊥)
     → Walking last s (at + z)
-walking-on {last} {s} {at} A Z n =
-    let g = Z .stands n in
-    record {
-      here = next-place Z n (A .here);
-      inside = sized-in Z n .1;
-      below = λ o p l. ⊎-elim (A .below o p) (λ e. (g .0, subst (λ (x : ℕ). Stands last s x (g .0)) (sym e) (g .1 .0))) (next-after Z n (A .here) o p l);
-    }
+walking-on A Z n = record { here = next-place Z n (A .here); inside = sized-in Z n .1 }
 
--- a fault is no end: the code goes on there
+-- where it comes to the end it met no fault
 pub walked-all : {last : ℕ} {s : List ℕ} {at : ℕ} → Walking last s at → flowOf last at (drop at s) ≡ F.End
     → NoFault last s
-walked-all {last} {s} {at} A e q B = elim (decLt (B .offset) at) [
-  | yes l ↦ (let g = A .below (B .offset) (B .place) l in stands-no-fault (g .1) (B .fault))
-  | no l ↦ (let m = place-le (B .place) in let k = ends-over last s at e in let z : B .offset ≡ at = omega (arith, A .inside) in
-      clash (subst (λ (x : ℕ). flowOf last x (drop x s) ≡ F.Refused q) z (B .fault)))
-]
-  where
-    clash : flowOf last at (drop at s) ≡ F.Refused q → ⊥
-    clash h = let z : _≡_ {A = ℕ} 0 1 = cc in omega arith
+walked-all A e = whole-at (A .here) e
 
 pub walked : {last : ℕ} {s : List ℕ} {at : ℕ} → Walking last s at → Sized last s at 0 → (x : Step)
     → decode last at (drop at s) ≡ x → Walked last s (stopOf x)
 walked {last} {s} {at} A Z (Instr k o z) e = absurd (Z .none refl _ (record { is = sym (flow-op last at s k o z e) }))
 walked {last} {s} {at} A Z End e = walked-all A (sym (flow-end last at s e))
-walked {last} {s} {at} A Z (Refused q) e = record { offset = at; place = A .here; fault = sym (flow-refused last at s q e) }
+walked {last} {s} {at} A Z (Refused q) e = faulty-at (A .here) (sym (flow-refused last at s q e))
 
 -- looking for the place o: it is not passed
 
@@ -125,7 +111,7 @@ stopped-by : {last : ℕ} {s : List ℕ} {at : ℕ} → NoFault last s → Place
     → flowOf last at (drop at s) ≡ x → length s ≤ at
 stopped-by whole p Z (F.Op f) e = absurd (Z .none refl f (record { is = e }))
 stopped-by {last} {s} {at} whole p Z F.End e = ends-over last s at e
-stopped-by {at} whole p Z (F.Refused q) e = absurd (whole q (record { offset = at; place = p; fault = e }))
+stopped-by {at} whole p Z (F.Refused q) e = absurd (whole q (faulty-at p e))
 
 pub stopped-over : {last : ℕ} {s : List ℕ} {at z : ℕ} → NoFault last s → Place last s at → Sized last s at z → z ≡ 0
     → length s ≤ at

@@ -1,14 +1,13 @@
 -- Laws of assignments: a derived depth is in each of them, one whose depths are all derived is the smallest, and there is one smallest.
 -- Assumes nothing.
 use mathlib.Core.Path.{_≡_, refl, sym, ap, subst, _∙_}
-use mathlib.Core.Bool.{Bool, true, false}
+use mathlib.Core.Bool.{Bool, true, false, cond}
 use mathlib.Core.List.{List}
 use mathlib.Core.Option.{Option, some, none}
 use Prim.Native.Nat.{ℕ, _+_, _-_, _≤_}
 use native.Mathlib.Omega.{arith}
 use lib.Dec.{leb}
 use borrow.Author.Tests.{le-leb, leb-true}
-use Rattle.op.specs.Choice.{pick}
 use Rattle.op.specs.Depths.{deepest, landing}
 use Rattle.op.specs.declared.After.{After}
 use Rattle.op.specs.declared.After.the-variants as A
@@ -19,11 +18,11 @@ use Rattle.code.specs.Depths.{Stands, Place, Leads, Assigns, Smallest, I
 
 -- a change's lead, in numbers
 
-chosen : (b : Bool) (x e : ℕ) (y : After) → pick b (A.Depth x) y ≡ A.Depth e → (y ≡ A.Depth e → ⊥) → (b ≡ true) × (x ≡ e)
+chosen : (b : Bool) (x e : ℕ) (y : After) → cond b (A.Depth x) y ≡ A.Depth e → (y ≡ A.Depth e → ⊥) → (b ≡ true) × (x ≡ e)
 chosen true x e y h n = (refl, cc)
 chosen false x e y h n = absurd (n h)
 
-under : (b : Bool) (x y : After) (e : ℕ) → pick b x y ≡ A.Depth e → (y ≡ A.Depth e → ⊥) → (b ≡ true) × (x ≡ A.Depth e)
+under : (b : Bool) (x y : After) (e : ℕ) → cond b x y ≡ A.Depth e → (y ≡ A.Depth e → ⊥) → (b ≡ true) × (x ≡ A.Depth e)
 under true x y e h n = (refl, h)
 under false x y e h n = absurd (n h)
 

@@ -1,7 +1,7 @@
 -- What it says that some bytes begin with an instruction. Callers use these laws and never open `decode`.
 -- Assumes nothing.
 use mathlib.Core.Path.{_≡_, refl, sym, ap, _∙_}
-use mathlib.Core.Bool.{Bool, true, false}
+use mathlib.Core.Bool.{Bool, true, false, cond}
 use mathlib.Core.List.{List, [], _∷_}
 use mathlib.Core.Logic.{_⊎_, inl, inr}
 use Prim.Native.Nat.{ℕ, _+_, _-_, _*_, _<_, _≤_}
@@ -10,7 +10,6 @@ use lib.Dec.{leb}
 use lib.ListN.{length, getD, take, drop, length-drop, drop-of-length-le}
 use lib.Seq.{drop-drop}
 use borrow.Author.Tests.{leb-true, le-leb, lt-leb}
-use Rattle.op.specs.Choice.{pick}
 use Rattle.op.specs.Opcodes.{lastOpcode, known}
 use Rattle.op.specs.Shapes.{shapeOf, operandShape, sizeOf}
 use Rattle.op.specs.declared.Operand.{Operand}
@@ -26,7 +25,7 @@ use Rattle.code.proofs.Sizes.{shape-in, size-by-names, fixed-part}
 
 -- shapes under a table
 
-chosen : (b : Bool) (p : Shaped) (r : Refusal) (s : Shape) → pick b p (P.Refused r) ≡ P.Is s → (b ≡ true) × (p ≡ P.Is s)
+chosen : (b : Bool) (p : Shaped) (r : Refusal) (s : Shape) → cond b p (P.Refused r) ≡ P.Is s → (b ≡ true) × (p ≡ P.Is s)
 chosen true p r s e = (refl, e)
 chosen false p r s e = absurd (let z : _≡_ {A = ℕ} 0 1 = cc in omega arith)
 
@@ -41,7 +40,7 @@ below-shape last k h = rw (le-leb k last h)
 
 -- today's own table has every opcode that has a shape
 same-choice : (b : Bool) (p : Shaped) (r : Refusal)
-    → pick b (pick b p (P.Refused r)) (P.Refused r) ≡ pick b p (P.Refused r)
+    → cond b (cond b p (P.Refused r)) (P.Refused r) ≡ cond b p (P.Refused r)
 same-choice true p r = refl
 same-choice false p r = refl
 
@@ -90,7 +89,7 @@ pub record Decoded (last : ℕ) (u : List ℕ) (k : ℕ) (o : Operand) (z : ℕ)
   pub base : z ≡ sizeOf (operandShape o) 0 + 2 * namesIn o
   pub fits : z ≤ length u
 
-picked : (t : Bool) (a b x : Step) → pick t a b ≡ x → (b ≡ x → ⊥) → (t ≡ true) × (a ≡ x)
+picked : (t : Bool) (a b x : Step) → cond t a b ≡ x → (b ≡ x → ⊥) → (t ≡ true) × (a ≡ x)
 picked true a b x e n = (refl, e)
 picked false a b x e n = absurd (n e)
 
@@ -188,7 +187,7 @@ pub decode-past : (last at : ℕ) (s : List ℕ) → length s ≤ at → decode 
 unfolding decode
 decode-past last at s h = rw (drop-of-length-le s {i = at} h)
 
-no-end : (b : Bool) (k : ℕ) (o : Operand) (z : ℕ) (r : Refusal) (n : ℕ) → pick b (Instr k o z) (Refused r) ≡ End → n ≡ 0
+no-end : (b : Bool) (k : ℕ) (o : Operand) (z : ℕ) (r : Refusal) (n : ℕ) → cond b (Instr k o z) (Refused r) ≡ End → n ≡ 0
 no-end true k o z r n e = cc
 no-end false k o z r n e = cc
 
@@ -205,7 +204,7 @@ decode-end last at [] e = refl
 decode-end last at (k ∷ t) e = not-ended at k t (shapeUpTo last k) e
 
 -- a fault is 1 or 22, at that offset
-fault-of : (b : Bool) (k : ℕ) (o : Operand) (z : ℕ) (r′ r : Refusal) → pick b (Instr k o z) (Refused r′) ≡ Refused r → r ≡ r′
+fault-of : (b : Bool) (k : ℕ) (o : Operand) (z : ℕ) (r′ r : Refusal) → cond b (Instr k o z) (Refused r′) ≡ Refused r → r ≡ r′
 fault-of true k o z r′ r e = let x : _≡_ {A = ℕ} 0 1 = cc in absurd (omega arith)
 fault-of false k o z r′ r e = cc
 
@@ -231,7 +230,7 @@ names-part last u k o z d =
 
 -- the names do not go by the offset either
 same-names : (b : Bool) (k : ℕ) (o : Operand) (z : ℕ) (r r′ : Refusal) (u : List ℕ)
-    → namesBy (pick b (Instr k o z) (Refused r)) u ≡ namesBy (pick b (Instr k o z) (Refused r′)) u
+    → namesBy (cond b (Instr k o z) (Refused r)) u ≡ namesBy (cond b (Instr k o z) (Refused r′)) u
 same-names true k o z r r′ u = refl
 same-names false k o z r r′ u = refl
 

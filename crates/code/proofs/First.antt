@@ -3,9 +3,8 @@
 use Prim.Native.Nat.{ℕ, zero, suc, _+_, _≤_, _<_}
 use borrow.Author.Count.{below-none, below-more}
 use native.Mathlib.Omega.{arith}
-use mathlib.Core.Bool.{Bool, true, false}
+use mathlib.Core.Bool.{Bool, true, false, cond}
 use mathlib.Core.Path.{_≡_, refl, ap, sym, subst, _∙_}
-use Rattle.op.specs.Choice.{pick}
 use Rattle.code.specs.Rows.{first}
 
 -- i is the first of the rows below n that passes, or n if none does
@@ -47,7 +46,7 @@ is-first test (suc n) = go (test zero) refl (is-first (λ k. test (suc k)) n)
     rest : ℕ
     rest = first (λ k. test (suc k)) n
 
-    go : (b : Bool) → test zero ≡ b → IsFirst (λ k. test (suc k)) n rest → IsFirst test (suc n) (pick b zero (suc rest))
+    go : (b : Bool) → test zero ≡ b → IsFirst (λ k. test (suc k)) n rest → IsFirst test (suc n) (cond b zero (suc rest))
     go true e d =
         record {
           inside = omega arith;

@@ -1,7 +1,7 @@
 -- Laws of `flowOf`: a law for each case of the code, and what callers need of an instruction that flows on.
 -- Assumes nothing.
 use mathlib.Core.Path.{_≡_, refl, sym, ap, subst, _∙_}
-use mathlib.Core.Bool.{Bool, true, false, not}
+use mathlib.Core.Bool.{Bool, true, false, cond, not}
 use mathlib.Core.List.{List}
 use Prim.Native.Nat.{ℕ, suc, _+_, _-_, _<_, _≤_}
 use native.Mathlib.Omega.{arith}
@@ -10,7 +10,6 @@ use lib.IntN.{ℤ, pos, negsuc, subℕ}
 use lib.ListN.{length, drop, length-drop}
 use lib.Signed.{mag}
 use borrow.Author.Tests.{le-leb, lt-leb, leb-true, ltb-true, ltb-false}
-use Rattle.op.specs.Choice.{pick}
 use Rattle.op.specs.Opcodes.{Rule, minus3, minus2, minus1, same, plus1, plus2, minus-n, one-minus-n, one-minus-2n, n-minus-one, both, minus-both, one-minus-both, extended, format, assert, assert-failed, match-keys}
 use Rattle.op.specs.Opcodes.{table, known, rowOf}
 use Rattle.op.specs.Shapes.{shapeNumber, shapeIn, shapeOf, operandShape, sizeOf}
@@ -41,13 +40,13 @@ use Rattle.code.proofs.Ranges.{InRange, operand-small}
 -- goals, by the word that stands for the displacement
 
 module _ (next end : ℕ) where
-  forth : (z : ℤ) → mag z < 32768 → unsigned 65536 z < 32768 → pick (leb (next + unsigned 65536 z) end) (To (next + unsigned 65536 z)) Outside ≡ goalBy next end z
+  forth : (z : ℤ) → mag z < 32768 → unsigned 65536 z < 32768 → cond (leb (next + unsigned 65536 z) end) (To (next + unsigned 65536 z)) Outside ≡ goalBy next end z
   unfolding goalBy
   forth (pos n) h l = refl
   forth (negsuc n) h l = absurd (omega arith)
 
   back : (z : ℤ) → mag z < 32768 → 32768 ≤ unsigned 65536 z
-      → pick (leb (65536 - unsigned 65536 z) next) (To (next - (65536 - unsigned 65536 z))) Outside ≡ goalBy next end z
+      → cond (leb (65536 - unsigned 65536 z) next) (To (next - (65536 - unsigned 65536 z))) Outside ≡ goalBy next end z
   unfolding goalBy
   back (pos n) h l = absurd (omega arith)
   back (negsuc n) h l = let e : 65536 - (65536 - suc n) ≡ suc n = omega arith in rw e
@@ -151,7 +150,7 @@ unfolding flowOf
 flowed last at s f e = flowed-by last at s f (decode last at (drop at s)) refl e
 
 -- a goal in the code is an offset or the end
-chosen : (b : Bool) (x t : ℕ) → pick b (To x) Outside ≡ To t → (b ≡ true) × (x ≡ t)
+chosen : (b : Bool) (x t : ℕ) → cond b (To x) Outside ≡ To t → (b ≡ true) × (x ≡ t)
 chosen true x t e = (refl, cc)
 chosen false x t e = let z : _≡_ {A = ℕ} 0 1 = cc in absurd (omega arith)
 
@@ -176,7 +175,7 @@ pub change-is : (e : Effect) → isBy e ≡ true → ofChange (changeOf e) ≡ e
 change-is (E.By up down) h = refl
 change-is (E.Refused r) h = cc
 
-by-mode : (b : Bool) → isBy (pick b (E.By 0 1) (E.By 2 0)) ≡ true
+by-mode : (b : Bool) → isBy (cond b (E.By 0 1) (E.By 2 0)) ≡ true
 by-mode true = refl
 by-mode false = refl
 

@@ -3,12 +3,11 @@
 use Prim.Native.Nat.{ℕ, zero, suc, _+_}
 use native.Mathlib.Nat.{zero-add, add-zero}
 use native.Mathlib.Omega.{arith}
-use mathlib.Core.Bool.{Bool, true, false}
+use mathlib.Core.Bool.{Bool, true, false, cond}
 use mathlib.Core.List.{List, [], _∷_, _++_}
 use mathlib.Core.Path.{_≡_, refl, ap, sym, _∙_}
 use borrow.Author.Tests.{lt-ltb}
 use lib.Dec.{ltb, leb·suc-suc}
-use Rattle.op.specs.Choice.{pick}
 use Rattle.code.proofs.First.{first-same}
 use Rattle.code.proofs.Rows.{count-next, cell-next}
 use Rattle.code.specs.Entries.{contains, findFrom, entryRow, tableOf, flatAnswer}
@@ -24,7 +23,7 @@ use Rattle.code.specs.declared.HandlerRow.{HandlerRow}
 -- the flat lookup's answer, its rows numbered from j
 abbrev handlerFrom : List ℕ → ℕ → ℕ → Handled
 handlerFrom cells x j =
-    pick (ltb (firstCovering cells x) (rowCount exceptionCells cells))
+    cond (ltb (firstCovering cells x) (rowCount exceptionCells cells))
     (H.Row (j + firstCovering cells x) (handlerRow cells (firstCovering cells x)))
     H.Absent
 
@@ -53,15 +52,15 @@ module _ (e : ExceptionEntry) (cells : List ℕ) (x : ℕ) where
   covering-more i = ap (λ (r : HandlerRow). coversOf (r .start) (r .end) x) (row-more i)
 
   -- the first row that covers an offset, with an entry's row in front
-  first-more : firstCovering more x ≡ pick (contains e x) zero (suc (firstCovering cells x))
+  first-more : firstCovering more x ≡ cond (contains e x) zero (suc (firstCovering cells x))
   unfolding firstCovering first
   first-more =
       rw count-more
-      (ap (λ (n : ℕ). pick (contains e x) zero (suc n))
+      (ap (λ (n : ℕ). cond (contains e x) zero (suc n))
       (first-same (λ i. covering more x (suc i)) (covering cells x) (rowCount exceptionCells cells) covering-more))
 
   -- that entry is found, or what the rest has
-  from-more : (j : ℕ) (b : Bool) → contains e x ≡ b → handlerFrom more x j ≡ pick b (H.Row j (entryRow e)) (handlerFrom cells x (j + 1))
+  from-more : (j : ℕ) (b : Bool) → contains e x ≡ b → handlerFrom more x j ≡ cond b (H.Row j (entryRow e)) (handlerFrom cells x (j + 1))
   from-more j true hit =
       rw (first-more, count-more, hit, lt-ltb 0 (suc (rowCount exceptionCells cells)) (omega arith), add-zero j)
   from-more j false miss =
@@ -77,7 +76,7 @@ numbered (e ∷ es) x j = go (contains e x) refl (numbered es x (j + 1))
     go : (b : Bool)
         → contains e x ≡ b
         → handlerFrom (tableOf es) x (j + 1) ≡ flatAnswer (findFrom es x (j + 1))
-        → handlerFrom (tableOf (e ∷ es)) x j ≡ flatAnswer (pick b (F.Row j e) (findFrom es x (j + 1)))
+        → handlerFrom (tableOf (e ∷ es)) x j ≡ flatAnswer (cond b (F.Row j e) (findFrom es x (j + 1)))
     go true hit rest = from-more e (tableOf es) x j true hit
     go false miss rest = from-more e (tableOf es) x j false miss ∙ rest
 
@@ -90,6 +89,6 @@ records-flat es x = ap (λ (i : ℕ). answerAt i) (sym (zero-add (firstCovering 
 
     answerAt : ℕ → Handled
     answerAt i =
-        pick (ltb (firstCovering cells x) (rowCount exceptionCells cells))
+        cond (ltb (firstCovering cells x) (rowCount exceptionCells cells))
         (H.Row i (handlerRow cells (firstCovering cells x)))
         H.Absent

@@ -6,6 +6,7 @@ pub mod Inverse
 pub mod Stores
 pub mod Writing
 pub mod Flows
+pub mod Instructions
 pub mod Counted
 pub mod First
 pub mod Rows

@@ -1,11 +1,11 @@
 -- Numbers as bytes: "A u16 is little-endian; signed numbers are two's complement" (R13).
 -- Assumes nothing.
+use mathlib.Core.Bool.{cond}
 use mathlib.Core.List.{List, [], _∷_, _++_}
 use Prim.Native.Nat.{ℕ, suc, _+_, _-_, _*_, _/_, _%_}
 use lib.Dec.{ltb}
 use lib.IntN.{ℤ, pos, negsuc, subℕ}
 use lib.ListN.{length, drop, getD}
-use Rattle.op.specs.Choice.{pick}
 
 -- the word at an index, its low byte first
 abbrev pub wordAt : List ℕ → ℕ → ℕ
@@ -28,7 +28,7 @@ wordsIn (a ∷ (b ∷ u)) = (a + 256 * b) ∷ wordsIn u
 
 -- two's complement of m values: b, or b - m from the middle on
 unfoldable pub signed : ℕ → ℕ → ℤ
-signed m b = pick (ltb b (m / 2)) (pos b) (subℕ b m)
+signed m b = cond (ltb b (m / 2)) (pos b) (subℕ b m)
 
 -- the other way
 abbrev pub unsigned : ℕ → ℤ → ℕ

@@ -1,11 +1,11 @@
 -- The instruction at the front of some bytes: R13 to R15.
 -- The table of opcodes is a parameter, told by its last opcode, `last`.
 -- Assumes nothing.
+use mathlib.Core.Bool.{cond}
 use mathlib.Core.List.{List, [], _∷_}
 use Prim.Native.Nat.{ℕ, _-_, _*_}
 use lib.Dec.{leb}
 use lib.ListN.{length, getD, take, drop}
-use Rattle.op.specs.Choice.{pick}
 use Rattle.op.specs.Opcodes.{knownUpTo}
 use Rattle.op.specs.Shapes.{shapeOf, sizeOf}
 use Rattle.op.specs.declared.Operand.{Operand}
@@ -57,7 +57,7 @@ sizeIn s u = sizeOf s (namesIn (operandIn s u))
 -- exceeds what is there
 unfoldable pub stepIn : ℕ → Shape → List ℕ → Step
 stepIn at s u =
-    pick (leb (sizeIn s u) (length u)) (Instr (getD u 0 0) (operandIn s u) (sizeIn s u)) (Refused (CutShort at))
+    cond (leb (sizeIn s u) (length u)) (Instr (getD u 0 0) (operandIn s u) (sizeIn s u)) (Refused (CutShort at))
 
 -- 1, "if read, with its offset"
 abbrev pub whole : ℕ → Shaped → List ℕ → Step
@@ -66,7 +66,7 @@ whole at (P.Refused r) u = Refused (UnknownOpcodeAt at)
 
 -- an opcode's shape, or 1 above the table's last opcode
 unfoldable pub shapeUpTo : ℕ → ℕ → Shaped
-shapeUpTo last k = pick (knownUpTo last k) (shapeOf k) (P.Refused UnknownOpcode)
+shapeUpTo last k = cond (knownUpTo last k) (shapeOf k) (P.Refused UnknownOpcode)
 
 -- the instruction at the front of u, the code from an offset on; the offset only names a fault's place (R14)
 unfoldable pub decode : ℕ → ℕ → List ℕ → Step

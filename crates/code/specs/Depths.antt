@@ -17,21 +17,19 @@ use Rattle.code.specs.declared.Flow.{Flow}
 use Rattle.code.specs.declared.Flowing.the-variants as F
 use Rattle.code.specs.declared.Goal.the-variants.{Nowhere, To}
 use Rattle.code.specs.Flow.{flowOf}
+use Rattle.code.specs.Reading.{instructionsIn, placesIn}
 
 -- an instruction that moves on as f says stands at o
 pub record Stands (last : ℕ) (s : List ℕ) (o : ℕ) (f : Flow) : Type 0 where
   pub is : flowOf last o (drop o s) ≡ F.Op f
 
 -- "the instructions' starts and the end": reading from 0 on comes to o (R48)
-pub data Place (last : ℕ) (s : List ℕ) : ℕ → Type 0 where
-  first : Place last s 0
-  next : {o q : ℕ} {f : Flow} → Place last s o → Stands last s o f → o + f .size ≡ q → Place last s q
+pub record Place (last : ℕ) (s : List ℕ) (o : ℕ) : Type 0 where
+  pub is : List·Memᴰ o (placesIn (instructionsIn last s))
 
--- "1 or 22 at the lowest offset": reading comes to a fault
+-- "1 or 22 at the lowest offset": reading stops at a fault
 pub record Faulty (last : ℕ) (s : List ℕ) (q : Refusal) : Type 0 where
-  pub offset : ℕ
-  pub place : Place last s offset
-  pub fault : flowOf last offset (drop offset s) ≡ F.Refused q
+  pub is : instructionsIn last s .fault ≡ some q
 
 -- the pair o, d is a start
 pub record Begins (st : List ℕ) (o d : ℕ) : Type 0 where

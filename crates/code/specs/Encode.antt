@@ -1,13 +1,12 @@
 -- The bytes of an instruction, and what its writer does: R13, R17.
 -- Assumes nothing.
 use mathlib.Core.Path.{_≡_}
-use mathlib.Core.Bool.{Bool}
+use mathlib.Core.Bool.{Bool, cond}
 use mathlib.Core.List.{List, [], _∷_, _++_}
 use Prim.Native.Nat.{ℕ, _≤_, _<_}
 use lib.Dec.{leb, eqb}
 use lib.ListN.{length}
 use lib.Signed.{mag}
-use Rattle.op.specs.Choice.{pick}
 use Rattle.op.specs.Shapes.{shapeNumber, shapeOf, operandShape, sizeOf}
 use Rattle.op.specs.declared.Operand.{Operand}
 use Rattle.op.specs.declared.Operand.the-variants as O
@@ -63,7 +62,7 @@ pub record Formed (k : ℕ) (o : Operand) (names : List ℕ) : Type 0 where
 
 -- what is refused where a test fails
 abbrev pub unless : Bool → Refusal → Written → Written
-unless t r w = pick t w (Refused r)
+unless t r w = cond t w (Refused r)
 
 -- 7, then 2 for a shape that isn't the opcode's and for a count that isn't the names', then 18; n names, so many bytes of room
 abbrev pub writtenBy : Shaped → Operand → ℕ → ℕ → Written

@@ -2,9 +2,8 @@
 -- "and over a lent slice of records" (R45).
 -- Assumes nothing.
 use Prim.Native.Nat.{ℕ, _+_}
-use mathlib.Core.Bool.{Bool, true, false}
+use mathlib.Core.Bool.{Bool, true, false, cond}
 use mathlib.Core.List.{List, [], _∷_, _++_}
-use Rattle.op.specs.Choice.{pick}
 use Rattle.code.specs.Lookups.{coversOf, handlerCells}
 use Rattle.code.specs.declared.ExceptionEntry.{ExceptionEntry}
 use Rattle.code.specs.declared.Found.{Found}
@@ -27,7 +26,7 @@ pushesException Cleanup = false
 -- the first entry of a list that contains an offset, with its number; the entries are numbered from i (R45)
 unfoldable pub findFrom : List ExceptionEntry → ℕ → ℕ → Found
 findFrom [] x i = Absent
-findFrom (e ∷ es) x i = pick (contains e x) (Row i e) (findFrom es x (i + 1))
+findFrom (e ∷ es) x i = cond (contains e x) (Row i e) (findFrom es x (i + 1))
 
 -- "0 Consuming, 1 Cleanup"
 abbrev pub kindNumber : HandlerKind → ℕ

@@ -1,12 +1,11 @@
 -- How the instruction at an offset moves on: R9, R10, R19.
 -- Assumes nothing.
-use mathlib.Core.Bool.{not}
+use mathlib.Core.Bool.{cond, not}
 use mathlib.Core.List.{List}
 use Prim.Native.Nat.{ℕ, suc, _+_, _-_}
 use lib.Dec.{leb}
 use lib.IntN.{ℤ, pos, negsuc}
 use lib.ListN.{length}
-use Rattle.op.specs.Choice.{pick}
 use Rattle.op.specs.Effects.{effectOf, takenOf, deadMaker}
 use Rattle.op.specs.declared.Effect.{Effect}
 use Rattle.op.specs.declared.Effect.the-variants as E
@@ -24,8 +23,8 @@ use Rattle.code.specs.Decode.{decode}
 
 -- next + z, where that is an offset of code of so many bytes, or its end
 unfoldable pub goalBy : ℕ → ℕ → ℤ → Goal
-goalBy next end (pos n) = pick (leb (next + n) end) (To (next + n)) Outside
-goalBy next end (negsuc n) = pick (leb (suc n) next) (To (next - suc n)) Outside
+goalBy next end (pos n) = cond (leb (next + n) end) (To (next + n)) Outside
+goalBy next end (negsuc n) = cond (leb (suc n) next) (To (next - suc n)) Outside
 
 -- where an operand leads from the instruction before `next`
 abbrev pub goalOf : ℕ → ℕ → Operand → Goal

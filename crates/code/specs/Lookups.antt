@@ -2,11 +2,10 @@
 -- Assumes nothing.
 use mathlib.Core.Path.{_≡_}
 use Prim.Native.Nat.{ℕ, zero, suc, _+_, _-_, _≤_, _<_}
-use mathlib.Core.Bool.{Bool, true, _&&_}
+use mathlib.Core.Bool.{Bool, true, cond, _&&_}
 use mathlib.Core.List.{List, [], _∷_}
 use lib.Dec.{leb, ltb, eqb}
 use lib.ListN.{length, getD}
-use Rattle.op.specs.Choice.{pick}
 use Rattle.code.specs.Rows.{rowCount, cell, first}
 use Rattle.code.specs.Tables.{exceptionCells}
 use Rattle.code.specs.Locations.{locationCount, locationRoom, locationRow, pushLocation, usedLocations}
@@ -41,7 +40,7 @@ largestU32 = 4294967295
 -- Location: "the row before the first row whose offset is greater, or the last row if none is"; none if "the offset exceeds u32"
 -- (R44)
 unfoldable pub locationOf : List ℕ → ℕ → Located
-locationOf cells x = pick (ltb largestU32 x) L.Absent (rowBefore cells (firstGreater cells x))
+locationOf cells x = cond (ltb largestU32 x) L.Absent (rowBefore cells (firstGreater cells x))
 
 -- what is recorded is found: a row is pushed where there is room and no used row's offset is greater, and the lookup of its
 -- offset over the rows then used answers its number and its numbers
@@ -82,18 +81,18 @@ firstCovering cells x = first (covering cells x) (rowCount exceptionCells cells)
 -- Handler: that row (R45)
 unfoldable pub handlerOf : List ℕ → ℕ → Handled
 handlerOf cells x =
-    pick (ltb (firstCovering cells x) (rowCount exceptionCells cells))
+    cond (ltb (firstCovering cells x) (rowCount exceptionCells cells))
     (H.Row (firstCovering cells x) (handlerRow cells (firstCovering cells x)))
     H.Absent
 
 -- "A constant past the count is Absent" (R46)
 unfoldable pub constantOf : List ℕ → ℕ → Constant
-constantOf cells i = pick (ltb i (length cells)) (C.Value (getD cells i 0)) C.Absent
+constantOf cells i = cond (ltb i (length cells)) (C.Value (getD cells i 0)) C.Absent
 
 -- "0 for absent, else the number and one"; a cell "over 4,294,967,296" is absent too
 abbrev pub nameIn : ℕ → LocalName
-nameIn c = pick (eqb c 0) N.Absent (pick (leb c 4294967296) (N.Name (c - 1)) N.Absent)
+nameIn c = cond (eqb c 0) N.Absent (cond (leb c 4294967296) (N.Name (c - 1)) N.Absent)
 
 -- "A slot past the table, or whose cell is 0 or over 4,294,967,296, is Absent" (R46)
 unfoldable pub localNameOf : List ℕ → ℕ → LocalName
-localNameOf cells slot = pick (ltb slot (length cells)) (nameIn (getD cells slot 0)) N.Absent
+localNameOf cells slot = cond (ltb slot (length cells)) (nameIn (getD cells slot 0)) N.Absent

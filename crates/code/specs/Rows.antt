@@ -2,10 +2,9 @@
 -- behind them is skipped" (R44 to R46).
 -- Assumes nothing.
 use Prim.Native.Nat.{ℕ, zero, suc, _+_, _*_, _/_}
-use mathlib.Core.Bool.{Bool}
+use mathlib.Core.Bool.{Bool, cond}
 use mathlib.Core.List.{List}
 use lib.ListN.{length, getD, take, drop}
-use Rattle.op.specs.Choice.{pick}
 
 -- how many whole rows a table has: a trailing part row is skipped
 abbrev pub rowCount : ℕ → List ℕ → ℕ
@@ -22,4 +21,4 @@ row w cells i = take w (drop (i * w) cells)
 -- the first of the rows 0 to n - 1 that passes a test, or n if none does
 unfoldable pub first : (ℕ → Bool) → ℕ → ℕ
 first test zero = zero
-first test (suc n) = pick (test zero) zero (suc (first (λ i. test (suc i)) n))
+first test (suc n) = cond (test zero) zero (suc (first (λ i. test (suc i)) n))

@@ -1,7 +1,7 @@
 -- What an accepted build says: the code is within its limit, and no label is open, so no jump waits.
 -- Assumes nothing.
 use mathlib.Core.Path.{_≡_, refl, sym, ap, _∙_}
-use mathlib.Core.Bool.{Bool, true, false, _&&_, _||_}
+use mathlib.Core.Bool.{Bool, true, false, cond, _&&_, _||_}
 use mathlib.Core.Logic.{_⊎_, inl, inr}
 use mathlib.Core.List.{List, [], _∷_}
 use mathlib.Core.Option.{some}
@@ -10,7 +10,6 @@ use native.Mathlib.Omega.{arith}
 use lib.Dec.{leb, eqb}
 use lib.ListN.{length, getD, getElem?}
 use borrow.Author.Tests.{leb-true}
-use Rattle.op.specs.Choice.{pick}
 use Rattle.op.specs.declared.Refusal.the-variants.{OpenLabel, Unsound}
 use Rattle.builder.specs.State.{kept, unless}
 use Rattle.builder.specs.Marks.{anyOpen}
@@ -40,7 +39,7 @@ built-facts b fill names marks n e =
     go (leb (b .core .code) codeLimit) (leb (b .names) (length names) && within markCells (b .core .marks) (length marks)) (anyOpen (b .core .marks) marks) refl refl e
   where
     go : (s t u : Bool) → leb (b .core .code) codeLimit ≡ s → anyOpen (b .core .marks) marks ≡ u
-        → unless (s && t) Unsound names (pick u (kept (Refused OpenLabel) names) (kept (Accepted b) (filledNames (b .names) fill names))) .answer ≡ Accepted n
+        → unless (s && t) Unsound names (cond u (kept (Refused OpenLabel) names) (kept (Accepted b) (filledNames (b .names) fill names))) .answer ≡ Accepted n
         → (b .core .code ≤ codeLimit) × (anyOpen (b .core .marks) marks ≡ false) × (n ≡ b)
     go true true false p q e = (leb-true (b .core .code) codeLimit p, q, cc)
     go true true true p q e = absurd (let z : _≡_ {A = ℕ} 0 1 = cc in omega arith)
@@ -79,7 +78,7 @@ open-kind : (kind x y o d : ℕ) → markOf kind x y ≡ Open o d → eqb kind o
 unfolding markOf
 open-kind kind x y o d e = go (eqb kind 1) (eqb kind 2) (eqb kind 3) e
   where
-    go : (p q r : Bool) → pick p (Open x y) (pick q (Patched x y) (pick r (Target x y) Absent)) ≡ Open o d → p ≡ true
+    go : (p q r : Bool) → cond p (Open x y) (cond q (Patched x y) (cond r (Target x y) Absent)) ≡ Open o d → p ≡ true
     go true q r e = refl
     go false true r e = absurd (let z : _≡_ {A = ℕ} 0 1 = cc in omega arith)
     go false false true e = absurd (let z : _≡_ {A = ℕ} 0 1 = cc in omega arith)

@@ -1,23 +1,21 @@
--- The bytes of the rows: they read as the rows, and a patch of the bytes is a patch of the rows.
+-- The bytes of the rows, and their depths; a patch of the bytes is a patch of the rows.
 -- Assumes nothing.
 use mathlib.Core.Path.{_≡_, refl, sym, ap, _∙_}
-use mathlib.Core.Bool.{Bool, true, false}
+use mathlib.Core.Bool.{Bool, true, false, cond}
 use mathlib.Core.Logic.{_⊎_, inl, inr}
 use mathlib.Core.List.{List, [], _∷_, _++_, map, append-assoc, List·Memᴰ as Mem, List·Memᴰ·head as mhead, List·Memᴰ·tail as mtail, List·Memᴰ·not-nil}
 use mathlib.Core.Option.{some, none}
-use Prim.Native.Nat.{ℕ, zero, suc, _+_, _-_, _/_, _%_, _≤_, _<_}
+use Prim.Native.Nat.{ℕ, _+_, _-_, _/_, _%_, _≤_, _<_}
 use native.Mathlib.Omega.{arith}
 use native.Mathlib.Nat.{zero-add, suc-add}
 use lib.Dec.{eqb}
-use lib.ListN.{length, drop, set, length-append}
-use lib.Seq.{drop-at}
+use lib.ListN.{length, set, length-append}
 use borrow.Author.Tests.{eqb-true, eq-eqb, ne-eqb}
-use Rattle.op.specs.Choice.{pick}
 use Rattle.builder.specs.Marks.{near, bits}
 use Rattle.builder.specs.declared.Depth.{Depth}
 use Rattle.builder.specs.declared.Depth.the-variants.{Dead, Live}
-use Rattle.demand.specs.Isa.{ins, Isa, also, read, reading}
-use Rattle.demand.specs.History.{waits, to, What, one, leap, Row, size, final, program, aimed, resolve, atEnd, depthAt}
+use Rattle.demand.specs.Isa.{Isa}
+use Rattle.demand.specs.History.{waits, to, What, one, leap, Row, size, aimed, resolve, atEnd, depthAt}
 use Rattle.demand.proofs.Laws.{Laws}
 use Rattle.demand.proofs.Book.{Chain}
 
@@ -69,7 +67,7 @@ module _ (I : Isa) (L : Laws I) where
       → ((r : Row I) × Mem r rs × (r .offset ≡ o) × (r .depth ≡ d)) ⊎ ((n ≡ o) × (c ≡ Live d))
   depth-sound [] n c o d h = go (eqb n o) refl c h
     where
-      go : (x : Bool) → eqb n o ≡ x → (c : Depth) → pick x (atEnd c) none ≡ some d → ((r : Row I) × Mem r [] × (r .offset ≡ o) × (r .depth ≡ d)) ⊎ ((n ≡ o) × (c ≡ Live d))
+      go : (x : Bool) → eqb n o ≡ x → (c : Depth) → cond x (atEnd c) none ≡ some d → ((r : Row I) × Mem r [] × (r .offset ≡ o) × (r .depth ≡ d)) ⊎ ((n ≡ o) × (c ≡ Live d))
       go false e c h = absurd (let z : _≡_ {A = ℕ} 0 1 = cc in omega arith)
       go true e Dead h = absurd (let z : _≡_ {A = ℕ} 0 1 = cc in omega arith)
       go true e (Live x) h = inr (eqb-true n o e, cc)
@@ -80,7 +78,7 @@ module _ (I : Isa) (L : Laws I) where
       up (inl t) = inl (t .0, mtail (t .1), t .2, t .3)
       up (inr t) = inr t
 
-      go : (y : Bool) → eqb (x .offset) o ≡ y → pick y (some (x .depth)) (depthAt I rs n c o) ≡ some d
+      go : (y : Bool) → eqb (x .offset) o ≡ y → cond y (some (x .depth)) (depthAt I rs n c o) ≡ some d
           → (depthAt I rs n c o ≡ some d → ((r : Row I) × Mem r rs × (r .offset ≡ o) × (r .depth ≡ d)) ⊎ ((n ≡ o) × (c ≡ Live d)))
           → ((r : Row I) × Mem r (x ∷ rs) × (r .offset ≡ o) × (r .depth ≡ d)) ⊎ ((n ≡ o) × (c ≡ Live d))
       go true e h k = inl (x, mhead refl, eqb-true (x .offset) o e, cc)
@@ -102,44 +100,11 @@ module _ (I : Isa) (L : Laws I) where
       let q1 = q .1 in
       rw (ne-eqb (x .offset) n (λ e. omega arith)) (depth-tip (s + size I (x .what)) rs n d (h .1))
 
-  -- reading
-
-  read-end : (f o : ℕ) → read I (suc f) o [] ≡ some []
-  unfolding read
-  read-end f o = rw (L .dec-end, read)
-
-  read-one : (f o : ℕ) (bs : List ℕ) (i : I .Ins) (n : ℕ) → I .dec bs ≡ ins i n → read I (suc f) o bs ≡ also I (o, i) (read I f (o + n) (drop n bs))
-  unfolding read
-  read-one f o bs i n h = rw (h, read)
-
   -- a row that can be read back
   abbrev pub Closed : ℕ → What I → Type 0
   Closed o (one p) = L .valid p
   Closed o (leap j (waits l)) = ⊥
   Closed o (leap j (to t)) = L .jumps j × (near o t ≡ true)
-
-  pub read-row : (o : ℕ) (w : What I) → Closed o w → (r : List ℕ) → I .dec (bytesAt I o w ++ r) ≡ ins (final I o w) (size I w)
-  read-row o (one p) v r = L .dec-plain p v r
-  read-row o (leap j (waits l)) v r = absurd v
-  read-row o (leap j (to t)) v r = L .dec-jump j o t (v .0) (v .1) r
-
-  pub read-rows : (f o n : ℕ) (rs : List (Row I)) → Chain I o rs n → ((r : Row I) → Mem r rs → Closed (r .offset) (r .what)) → length rs < f
-      → read I f o (bytesOf I rs) ≡ some (program I rs)
-  read-rows (suc f) o n [] h v l = read-end f o
-  read-rows (suc f) o n (r ∷ rs) h v l =
-      let d = read-row (r .offset) (r .what) (v r (mhead refl)) (bytesOf I rs) in
-      rw (
-        read-one f o _ _ _ d,
-        drop-at (bytesAt I (r .offset) (r .what)) (bytesOf I rs) (size I (r .what)) (length-bytes I (r .offset) (r .what)),
-        read-rows f (o + size I (r .what)) n rs (h .1) (λ q m. v q (mtail m)) (omega arith),
-      )
-      (ap (λ (x : ℕ). some ((x, final I (r .offset) (r .what)) ∷ program I rs)) (sym (h .0)))
-  read-rows zero o n [] h v l = absurd (omega arith)
-  read-rows zero o n (r ∷ rs) h v l = absurd (omega arith)
-
-  -- the bytes read as the rows
-  pub reads-rows : (n : ℕ) (rs : List (Row I)) → Chain I 0 rs n → ((r : Row I) → Mem r rs → Closed (r .offset) (r .what)) → reading I (bytesOf I rs) ≡ some (program I rs)
-  reads-rows n rs h v = read-rows (suc (length (bytesOf I rs))) 0 n rs h v (omega (arith, bytes-length I 0 n rs h, chain-le 0 n rs h))
 
 -- a patch of the bytes
 
@@ -162,7 +127,7 @@ module _ (I : Isa) (L : Laws I) (k t : ℕ) where
   aim-cases (leap j (to u)) = inl refl
   aim-cases (leap j (waits l)) = go (eqb l k) refl
     where
-      go : (y : Bool) → eqb l k ≡ y → (_≡_ {A = What I} (leap j (pick y (to t) (waits l))) (leap j (waits l))) ⊎ ((i : I .Jump) × (_≡_ {A = What I} (leap j (waits l)) (leap i (waits k))))
+      go : (y : Bool) → eqb l k ≡ y → (_≡_ {A = What I} (leap j (cond y (to t) (waits l))) (leap j (waits l))) ⊎ ((i : I .Jump) × (_≡_ {A = What I} (leap j (waits l)) (leap i (waits k))))
       go true e = let q = eqb-true l k e in inr (j, rw q)
       go false e = inl refl
 

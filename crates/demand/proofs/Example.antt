@@ -31,10 +31,10 @@ use Rattle.builder.specs.declared.JumpLabel.{JumpLabel}
 use Rattle.builder.specs.declared.JumpLabel.the-variants as L
 use Rattle.builder.specs.declared.JumpTarget.{JumpTarget}
 use Rattle.builder.specs.declared.JumpTarget.the-variants as T
-use Rattle.demand.specs.Machine.{instruction, isa}
+use Rattle.code.specs.Reading.{Instruction, instruction, Spot}
 use Rattle.demand.specs.History.{Given, ok, program}
 use Rattle.demand.specs.Calls.{I8, U16, PublicCall, emit′, emit-i8, emit-jump, emit-jump-to, current-jump-target, patch-jump, new-code-region, stack-depth, build}
-use Rattle.demand.specs.World.{World, world, Slice, Lent, Holds, By, Made, Run, next, Taken, none as no-call, then}
+use Rattle.demand.specs.World.{World, world, Slice, Lent, By, Made, Run, next, Taken, none as no-call, then}
 use Rattle.demand.specs.Demand.{begun, Fresh, finished, regionStarts, depths, Demand}
 use Rattle.demand.proofs.Model.{step}
 use Rattle.demand.proofs.Theorem.{demand-3}
@@ -63,12 +63,15 @@ pub example-bytes : finished (ended .world) ≡ 0x06 ∷ 0x5A ∷ 0x06 ∷ 0x00 
 unfolding emitNamed emitCore planOf emittingOf enterOf behind soundOf encode effectOf effectBy takenOf deadMaker known rowOf table landing sizeOf put signed bits near markIn markOf fits markable emitJumpOf jumpPlanOf emitJumpToOf jumpToCore toPlanOf targetOf patchJumpOf patchPlanOf markPlanOf regionOf
 example-bytes = refl
 
+abbrev at : ℕ → ℕ → Instruction → Spot
+at offset size what = record { offset = offset; what = what; size = size }
+
 -- the jumps forward to 10 and back to 0
 pub example-history :
-    program isa (ended .history .rows) ≡
-    (0, instruction 0x06 O.None []) ∷ (1, instruction 0x5A (O.Offset (pos 6)) []) ∷ (4, instruction 0x08 (O.I8 (pos 7)) []) ∷ (6, instruction 0x00 O.None []) ∷
-    (7, instruction 0x58 (O.Offset (negsuc 9)) []) ∷ (10, instruction 0x05 O.None []) ∷ (11, instruction 0x65 O.None []) ∷ (12, instruction 0x00 O.None []) ∷
-    (13, instruction 0x65 O.None []) ∷ []
+    program (ended .history .rows) ≡
+    at 0 1 (instruction 0x06 O.None []) ∷ at 1 3 (instruction 0x5A (O.Offset (pos 6)) []) ∷ at 4 2 (instruction 0x08 (O.I8 (pos 7)) []) ∷
+    at 6 1 (instruction 0x00 O.None []) ∷ at 7 3 (instruction 0x58 (O.Offset (negsuc 9)) []) ∷ at 10 1 (instruction 0x05 O.None []) ∷
+    at 11 1 (instruction 0x65 O.None []) ∷ at 12 1 (instruction 0x00 O.None []) ∷ at 13 1 (instruction 0x65 O.None []) ∷ []
 unfolding emitNamed emitCore planOf emittingOf enterOf behind soundOf encode effectOf effectBy takenOf deadMaker known rowOf table landing sizeOf put signed bits near markIn markOf fits markable emitJumpOf jumpPlanOf emitJumpToOf jumpToCore toPlanOf targetOf patchJumpOf patchPlanOf markPlanOf regionOf
 example-history = refl
 

@@ -1,15 +1,10 @@
 -- What the theorem asks of an instruction set.
 -- Assumes nothing.
 use mathlib.Core.Path.{_≡_}
-use mathlib.Core.Bool.{true}
-use mathlib.Core.List.{List, [], _∷_, _++_}
 use mathlib.Core.Option.{some}
-use Prim.Native.Nat.{ℕ, _+_, _/_, _%_, _≤_, _<_}
-use lib.IntN.{subℕ}
+use Prim.Native.Nat.{ℕ, _≤_, _<_}
 use lib.ListN.{length}
-use Rattle.code.specs.Tables.{jumpSize}
-use Rattle.builder.specs.Marks.{near, bits}
-use Rattle.demand.specs.Isa.{end, ins, Isa}
+use Rattle.demand.specs.Isa.{Isa}
 
 pub record Laws (I : Isa) : Type 1 where
   -- what can be written
@@ -21,8 +16,3 @@ pub record Laws (I : Isa) : Type 1 where
   pub jnet-small : (j : I .Jump) (d e : ℕ) → I .jnet j d ≡ some e → e ≤ 65535
   pub taken-small : (j : I .Jump) (d e : ℕ) → I .taken j d ≡ some e → e ≤ 65535
   pub jnet-jumps : (j : I .Jump) (d e : ℕ) → I .jnet j d ≡ some e → jumps j
-  -- what was written reads back, whatever follows
-  pub dec-end : I .dec [] ≡ end
-  pub dec-plain : (p : I .Plain) → valid p → (r : List ℕ) → I .dec (I .bytes p ++ r) ≡ ins (I .plain p) (length (I .bytes p))
-  pub dec-jump : (j : I .Jump) (o t : ℕ) → jumps j → near o t ≡ true → (r : List ℕ)
-      → I .dec ((I .opcode j ∷ bits o t % 256 ∷ bits o t / 256 ∷ []) ++ r) ≡ ins (I .jump j (subℕ t (o + jumpSize))) jumpSize

@@ -1,7 +1,7 @@
 -- The laws of the rules' instruction set, from the laws of `op` and `code`.
 -- Assumes nothing.
-use mathlib.Core.Path.{_≡_, refl}
-use mathlib.Core.Bool.{Bool, true, false}
+use mathlib.Core.Path.{_≡_, refl, _∙_}
+use mathlib.Core.Bool.{Bool, true, false, cond}
 use mathlib.Core.List.{List, [], _∷_, _++_}
 use mathlib.Core.Option.{some}
 use Prim.Native.Nat.{ℕ, _+_, _-_, _/_, _%_, _≤_, _<_}
@@ -9,10 +9,10 @@ use native.Mathlib.Omega.{arith}
 use lib.Dec.{leb}
 use lib.IntN.{ℤ, pos, subℕ}
 use lib.ListN.{length}
+use lib.Seq.{drop-at}
 use lib.Signed.{mag}
 use mir.Syntax.{w16}
 use borrow.Author.Tests.{leb-true}
-use Rattle.op.specs.Choice.{pick}
 use Rattle.op.specs.Depths.{deepest, landing, afterOf, takenDepthOf, lowFalling, lowTaken}
 use Rattle.op.specs.Opcodes.{lastOpcode}
 use Rattle.op.specs.Shapes.{shapeOf, operandShape}
@@ -27,26 +27,26 @@ use Rattle.op.specs.declared.Refusal.{Refusal}
 use Rattle.op.specs.declared.Shape.the-variants as S
 use Rattle.op.specs.declared.Shaped.the-variants as P
 use Rattle.code.specs.Bytes.{unsigned}
-use Rattle.code.specs.Decode.{decode}
 use Rattle.code.specs.Depths.{Leads}
 use Rattle.code.specs.Encode.{encode, Formed}
 use Rattle.code.specs.Flow.{goalOf, changeOf}
+use Rattle.code.specs.Reading.{Instruction, before, instructionsFrom}
 use Rattle.code.specs.declared.Goal.the-variants.{Nowhere}
 use Rattle.code.proofs.Decoding.{shape-known}
+use Rattle.code.proofs.Instructions.{instructions-step}
 use Rattle.code.proofs.Inverse.{decode-encode, names-encode, words-names}
 use Rattle.code.proofs.Twos.{signed-small, unsigned-signed}
 use Rattle.code.specs.Tables.{jumpSize}
 use Rattle.builder.specs.Marks.{near, bits}
 use Rattle.builder.proofs.Plans.{after-shape}
 use Rattle.builder.proofs.Displacing.{displaced, bits-small}
-use Rattle.demand.specs.Isa.{end, ins}
-use Rattle.demand.specs.Machine.{Instruction, instruction, inRange, isaUpTo, isa}
+use Rattle.demand.specs.Machine.{inRange, isa}
 use Rattle.demand.proofs.Laws.{Laws}
 
 -- depths
 
 module _ (low : Refusal) (d e : ℕ) where
-  by-tests : (s t : Bool) (x : ℕ) (p q : Refusal) → leb x deepest ≡ t → pick s (pick t (A.Depth x) (A.Refused p)) (A.Refused q) ≡ A.Depth e → e ≤ 65535
+  by-tests : (s t : Bool) (x : ℕ) (p q : Refusal) → leb x deepest ≡ t → cond s (cond t (A.Depth x) (A.Refused p)) (A.Refused q) ≡ A.Depth e → e ≤ 65535
   by-tests true true x p q h k = let z : x ≡ e = cc in omega (arith, leb-true x deepest h)
   by-tests true false x p q h k = absurd (let z : _≡_ {A = ℕ} 0 1 = cc in omega arith)
   by-tests false t x p q h k = absurd (let z : _≡_ {A = ℕ} 0 1 = cc in omega arith)
@@ -57,7 +57,7 @@ module _ (low : Refusal) (d e : ℕ) where
   landing-small (E.Refused r) h = absurd (let z : _≡_ {A = ℕ} 0 1 = cc in omega arith)
 
   -- the depth does not hang on the refusal that is given below 0
-  any-low : (s t : Bool) (x : ℕ) (p q q′ : Refusal) → pick s (pick t (A.Depth x) (A.Refused p)) (A.Refused q) ≡ A.Depth e → pick s (pick t (A.Depth x) (A.Refused p)) (A.Refused q′) ≡ A.Depth e
+  any-low : (s t : Bool) (x : ℕ) (p q q′ : Refusal) → cond s (cond t (A.Depth x) (A.Refused p)) (A.Refused q) ≡ A.Depth e → cond s (cond t (A.Depth x) (A.Refused p)) (A.Refused q′) ≡ A.Depth e
   any-low true t x p q q′ h = h
   any-low false t x p q q′ h = absurd (let z : _≡_ {A = ℕ} 0 1 = cc in omega arith)
 
@@ -92,22 +92,25 @@ pub record Valid (i : Instruction) : Type 0 where
 abbrev pub Jumps : ℕ → Type 0
 Jumps k = shapeOf k ≡ P.Is S.Offset
 
--- what is well formed reads back under each table that has its opcode
-pub dec-under : (last : ℕ) (i : Instruction) → i .opcode ≤ last → Formed (i .opcode) (i .operand) (i .names)
-    → (r : List ℕ)
-    → isaUpTo last .dec (isaUpTo last .bytes i ++ r) ≡ ins i (length (isaUpTo last .bytes i))
-dec-under last i l f r =
-    let d = decode-encode last (i .opcode) (i .operand) (i .names) r l f 0 in
+-- what is well formed reads back under each table that has its opcode, whatever follows
+pub read-under : (last at : ℕ) (i : Instruction) → i .opcode ≤ last → Formed (i .opcode) (i .operand) (i .names) → (r : List ℕ)
+    → instructionsFrom last at (isa .bytes i ++ r)
+    ≡ before (record { offset = at; what = i; size = length (isa .bytes i) }) (instructionsFrom last (at + length (isa .bytes i)) r)
+read-under last at i l f r =
+    let u = isa .bytes i ++ r in
+    let d = decode-encode last (i .opcode) (i .operand) (i .names) r l f at in
     let n = names-encode last (i .opcode) (i .operand) (i .names) r l f in
-    rw (d, n, words-names (i .names))
+    let rest = drop-at (isa .bytes i) r (length (isa .bytes i)) refl in
+    instructions-step last at u ∙ rw (d, n, words-names (i .names), rest)
 
--- today's own has the opcode of all that is well formed
+-- the port's own has the opcode of all that is well formed
 pub formed-known : {k : ℕ} {o : Operand} {ns : List ℕ} → Formed k o ns → k ≤ lastOpcode
 formed-known {k} {o} f = shape-known k (operandShape o) (f .shape)
 
-pub dec-formed : (i : Instruction) → Formed (i .opcode) (i .operand) (i .names) → (r : List ℕ)
-    → isa .dec (isa .bytes i ++ r) ≡ ins i (length (isa .bytes i))
-dec-formed i f r = dec-under lastOpcode i (formed-known f) f r
+pub read-formed : (at : ℕ) (i : Instruction) → Formed (i .opcode) (i .operand) (i .names) → (r : List ℕ)
+    → instructionsFrom lastOpcode at (isa .bytes i ++ r)
+    ≡ before (record { offset = at; what = i; size = length (isa .bytes i) }) (instructionsFrom lastOpcode (at + length (isa .bytes i)) r)
+read-formed at i f r = read-under lastOpcode at i (formed-known f) f r
 
 -- a jump's displacement
 
@@ -129,10 +132,6 @@ pub encode-some : (k : ℕ) (o : Operand) (ns : List ℕ) → 0 < length (encode
 unfolding encode
 encode-some k o ns = omega arith
 
-pub dec-nothing : isa .dec [] ≡ end
-unfolding decode
-dec-nothing = refl
-
 abbrev pub laws : Laws isa
 laws = record {
   valid = Valid;
@@ -142,7 +141,4 @@ laws = record {
   jnet-small = λ k d e h. after-small d k (O.Offset (pos 0)) e h;
   taken-small = λ k d e h. landing-small lowTaken d e (takenOf k) (in-range (takenDepthOf d k) e h);
   jnet-jumps = λ k d e h. after-shape d k (O.Offset (pos 0)) e (in-range (afterOf d k (O.Offset (pos 0))) e h);
-  dec-end = dec-nothing;
-  dec-plain = λ i v r. dec-formed i (v .formed) r;
-  dec-jump = λ k o t s c r. rw (jump-bytes o t c k) at (dec-formed (instruction k (O.Offset (subℕ t (o + jumpSize))) []) (jump-formed o t c k s) r);
 }

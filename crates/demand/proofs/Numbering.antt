@@ -1,7 +1,7 @@
 -- Each call's kind is what its model emits: loads and stores by their slots, and the calls by number.
 -- Assumes nothing.
 use mathlib.Core.Path.{_≡_, refl, ap}
-use mathlib.Core.Bool.{Bool, true, false}
+use mathlib.Core.Bool.{Bool, true, false, cond}
 use mathlib.Core.List.{List, [], _∷_}
 use Prim.Native.Nat.{ℕ, zero, suc, _%_, _<_}
 use native.Mathlib.Omega.{arith}
@@ -9,7 +9,6 @@ use lib.Dec.{leb, ltb}
 use lib.ListN.{getD, length}
 use mir.Syntax.{w8}
 use borrow.Author.Tests.{lt-leb, ltb-true, ne-eqb}
-use Rattle.op.specs.Choice.{pick}
 use Rattle.op.specs.Chosen.{LoadLocal, LoadLocalW, StoreLocal, StoreLocalW}
 use Rattle.op.specs.declared.Operand.{Operand}
 use Rattle.op.specs.declared.Operand.the-variants as O
@@ -30,7 +29,7 @@ use Rattle.demand.proofs.Ties.{Sane}
 abbrev SaneOperand : Operand → Type 0
 SaneOperand o = SignsFit o × Still o
 
-sane-pick : (t : Bool) (x y : Operand) → SaneOperand x → SaneOperand y → SaneOperand (pick t x y)
+sane-pick : (t : Bool) (x y : Operand) → SaneOperand x → SaneOperand y → SaneOperand (cond t x y)
 sane-pick true x y p q = p
 sane-pick false x y p q = q
 
@@ -52,8 +51,8 @@ wide-load slot h =
       lt-leb slot 3 h,
     ) (go (leb slot 255))
   where
-    go : (t : Bool) → pick t (emit LoadLocal (O.U8 slot) []) (emit LoadLocalW (O.U16 slot) [])
-        ≡ emit (pick t LoadLocal LoadLocalW) (pick t (O.U8 slot) (O.U16 slot)) []
+    go : (t : Bool) → cond t (emit LoadLocal (O.U8 slot) []) (emit LoadLocalW (O.U16 slot) [])
+        ≡ emit (cond t LoadLocal LoadLocalW) (cond t (O.U8 slot) (O.U16 slot)) []
     go true = refl
     go false = refl
 
@@ -67,8 +66,8 @@ load-kind (suc (suc (suc (suc n)))) = wide-load (suc (suc (suc (suc n)))) (omega
 pub store-kind : (slot : ℕ) → stores slot ≡ emit (storeOp slot) (storeOperand slot) []
 store-kind slot = go (leb slot 255)
   where
-    go : (t : Bool) → pick t (emit StoreLocal (O.U8 slot) []) (emit StoreLocalW (O.U16 slot) [])
-        ≡ emit (pick t StoreLocal StoreLocalW) (pick t (O.U8 slot) (O.U16 slot)) []
+    go : (t : Bool) → cond t (emit StoreLocal (O.U8 slot) []) (emit StoreLocalW (O.U16 slot) [])
+        ≡ emit (cond t StoreLocal StoreLocalW) (cond t (O.U8 slot) (O.U16 slot)) []
     go true = refl
     go false = refl
 
@@ -104,7 +103,7 @@ module _ (ns : List ℕ) where
       → naming ns (fitting m x call) ≡ kindBy ns (below m x i)
   fit m x call i e = go (ltb x m)
     where
-      go : (t : Bool) → naming ns (pick t call other) ≡ kindBy ns (pick t i Nothing)
+      go : (t : Bool) → naming ns (cond t call other) ≡ kindBy ns (cond t i Nothing)
       go true = e
       go false = refl
 
@@ -192,7 +191,7 @@ sane-named ns other h = h
 sane-fit : (m x : ℕ) (call : Call) → (x < m → Sane call) → Sane (fitting m x call)
 sane-fit m x call f = go (ltb x m) refl
   where
-    go : (t : Bool) → ltb x m ≡ t → Sane (pick t call other)
+    go : (t : Bool) → ltb x m ≡ t → Sane (cond t call other)
     go true e = f (ltb-true x m e)
     go false e = tt
 

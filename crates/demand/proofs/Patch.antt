@@ -1,7 +1,7 @@
 -- A patch keeps the invariant.
 -- Assumes nothing.
 use mathlib.Core.Path.{_≡_, refl, sym, _∙_}
-use mathlib.Core.Bool.{Bool, true, false}
+use mathlib.Core.Bool.{Bool, true, false, cond}
 use mathlib.Core.Logic.{_≢_}
 use mathlib.Core.List.{List, [], _∷_, map, List·Memᴰ as Mem}
 use mathlib.Core.Option.{some}
@@ -10,7 +10,6 @@ use native.Mathlib.Omega.{arith}
 use lib.Dec.{eqb}
 use lib.ListN.{set, getElem?}
 use borrow.Author.Tests.{eqb-true, eqb-false, eq-eqb, ne-eqb}
-use Rattle.op.specs.Choice.{pick}
 use Rattle.builder.specs.Marks.{near}
 use Rattle.builder.specs.declared.Depth.the-variants.{Live}
 use Rattle.builder.specs.declared.marks.Mark.{Mark}
@@ -48,7 +47,7 @@ module _ (I : Isa) (k t : ℕ) where
   aim-open (leap i (to u)) j l h = absurd (let z : _≡_ {A = ℕ} 0 1 = cc in omega arith)
   aim-open (leap i (waits m)) j l h = go (eqb m k) refl h
     where
-      go : (x : Bool) → eqb m k ≡ x → _≡_ {A = What I} (leap i (pick x (to t) (waits m))) (leap j (waits l)) → (_≡_ {A = What I} (leap i (waits m)) (leap j (waits l))) × (l ≢ k)
+      go : (x : Bool) → eqb m k ≡ x → _≡_ {A = What I} (leap i (cond x (to t) (waits m))) (leap j (waits l)) → (_≡_ {A = What I} (leap i (waits m)) (leap j (waits l))) × (l ≢ k)
       go true e q = absurd (let z : _≡_ {A = ℕ} 0 1 = cc in omega arith)
       go false e q = (q, λ c. eqb-false m k e (let y : l ≡ m = cc in cc))
 
@@ -85,7 +84,7 @@ module _ (I : Isa) (L : Laws I) (b : Book I) (g : Good I L b) (k o d : ℕ) (mk 
   ok-resolve p e (leap j (to u)) m x = x
   ok-resolve p e (leap j (waits l)) m x = go (eqb l k) refl
     where
-      go : (y : Bool) → eqb l k ≡ y → RowOK I L (patched I b k o d) (record { offset = p; depth = e; what = leap j (pick y (to (b .len)) (waits l)) })
+      go : (y : Bool) → eqb l k ≡ y → RowOK I L (patched I b k o d) (record { offset = p; depth = e; what = leap j (cond y (to (b .len)) (waits l)) })
       go false h = x
       go true h = let lk = eqb-true l k h in
           let wt = waiting (record { offset = p; depth = e; what = leap j (waits l) }) j m (rw lk) in

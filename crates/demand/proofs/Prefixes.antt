@@ -1,24 +1,24 @@
 -- No instruction's bytes begin another's: specs/Prefixes.antt has the statements.
 -- Assumes nothing.
 use mathlib.Core.Path.{_≡_, refl, sym, ap, _∙_}
-use mathlib.Core.List.{List, [], _∷_, _++_, append-nil, List·Memᴰ as Mem, List·Memᴰ·head as mhead, List·Memᴰ·tail as mtail}
+use mathlib.Core.List.{List, [], _∷_, _++_, append-nil, head-eq-of-cons-eq, List·Memᴰ·head as mhead, List·Memᴰ·tail as mtail}
 use Prim.Native.Nat.{ℕ}
 use native.Mathlib.Omega.{arith}
 use lib.ListN.{length, drop, length-append}
 use lib.Seq.{drop-at}
-use Rattle.demand.specs.Isa.{ins}
-use Rattle.demand.specs.Machine.{Instruction, isa}
+use Rattle.op.specs.Opcodes.{lastOpcode}
+use Rattle.code.specs.Reading.{Instruction, Spot, Read, instructionsFrom}
+use Rattle.demand.specs.Machine.{isa}
 use Rattle.demand.specs.Prefixes.{WellFormed, allBytes, PrefixFree, OneList}
-use Rattle.demand.proofs.Machining.{dec-formed, encode-some}
+use Rattle.demand.proofs.Machining.{read-formed, encode-some}
 
 -- code begins with one instruction only
 same-first : (i j : Instruction) (r q : List ℕ) → WellFormed i → WellFormed j → isa .bytes i ++ r ≡ isa .bytes j ++ q → (i ≡ j) × (r ≡ q)
 same-first i j r q f g e =
-    let a = dec-formed i f r in
-    let b = dec-formed j g q in
-    let same : ins i (length (isa .bytes i)) ≡ ins j (length (isa .bytes j)) = sym a ∙ ap (isa .dec) e ∙ b in
-    let k : i ≡ j = cc in
-    let n : length (isa .bytes j) ≡ length (isa .bytes i) = cc in
+    let same = sym (read-formed 0 i f r) ∙ ap (instructionsFrom lastOpcode 0) e ∙ read-formed 0 j g q in
+    let spot = head-eq-of-cons-eq (ap (λ (read : Read). read .spots) same) in
+    let k : i ≡ j = ap (λ (x : Spot). x .what) spot in
+    let n : length (isa .bytes j) ≡ length (isa .bytes i) = sym (ap (λ (x : Spot). x .size) spot) in
     (k, sym (drop-at (isa .bytes i) r (length (isa .bytes i)) refl) ∙ ap (drop (length (isa .bytes i))) e ∙ drop-at (isa .bytes j) q (length (isa .bytes i)) n)
 
 pub prefix-free : PrefixFree

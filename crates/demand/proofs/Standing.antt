@@ -1,9 +1,8 @@
 -- Rows in their bytes: where no jump waits, each row's instruction stands at its offset, and reading meets the rows, the end and no fault.
 -- Assumes nothing.
-use mathlib.Core.Path.{_≡_, refl, sym, ap, subst, _∙_}
-use mathlib.Core.Logic.{_⊎_, inl, inr}
-use mathlib.Core.List.{List, [], _∷_, _++_, map, append-nil, append-assoc, List·Memᴰ as Mem, List·Memᴰ·head as mhead, List·Memᴰ·tail as mtail, List·Memᴰ·not-nil}
-use mathlib.Core.Option.{some}
+use mathlib.Core.Path.{_≡_, refl, sym, ap, _∙_}
+use mathlib.Core.List.{List, [], _∷_, _++_, map, append-assoc, List·Memᴰ as Mem, List·Memᴰ·head as mhead, List·Memᴰ·tail as mtail, Memᴰ·append-left, Memᴰ·append-right}
+use mathlib.Core.Option.{some, none}
 use Prim.Native.Nat.{ℕ, suc, _+_, _≤_}
 use native.Mathlib.Omega.{arith}
 use lib.IntN.{pos}
@@ -15,20 +14,22 @@ use Rattle.op.specs.Effects.{deadMaker}
 use Rattle.op.specs.declared.After.the-variants as A
 use Rattle.op.specs.declared.Refusal.{Refusal}
 use Rattle.code.specs.Decode.{decode}
-use Rattle.code.specs.Depths.{Stands, Place, first, next, Faulty, Rising}
+use Rattle.code.specs.Depths.{Stands, Place, Faulty, Rising}
 use Rattle.code.specs.Encode.{encode, Formed}
-use Rattle.code.specs.Flow.{flowBy, flowOf}
+use Rattle.code.specs.Flow.{flowBy}
+use Rattle.code.specs.Reading.{Instruction, Spot, Read, before, instructionsFrom, instructionsIn, placesIn}
 use Rattle.code.specs.declared.Flow.{Flow}
-use Rattle.code.specs.declared.Flowing.the-variants as F
 use Rattle.code.specs.declared.Step.the-variants.{Instr}
 use Rattle.code.proofs.Flows.{flow-op}
 use Rattle.code.proofs.Inverse.{decode-encode}
-use Rattle.code.proofs.Places.{stands-size, stands-one, stands-no-fault, end-no-fault}
-use Rattle.demand.specs.Machine.{Instruction, isa}
-use Rattle.demand.specs.History.{waits, to, What, one, leap, Row, size, final}
+use Rattle.code.proofs.Instructions.{instructions-step}
+use Rattle.code.proofs.Places.{stands-size}
+use Rattle.demand.specs.Machine.{isa}
+use Rattle.demand.specs.History.{waits, to, What, one, leap, Row, size, final, spotOf, program}
+use Rattle.demand.proofs.Lists.{mem-map}
 use Rattle.demand.proofs.Book.{net, stops, Chain}
 use Rattle.demand.proofs.Bytes.{bytesAt, bytesOf, length-bytes, bytes-length, size-some, Closed}
-use Rattle.demand.proofs.Machining.{formed-known, in-range, jump-net, jump-bytes, jump-formed, laws}
+use Rattle.demand.proofs.Machining.{formed-known, read-formed, in-range, jump-net, jump-bytes, jump-formed, laws}
 
 -- what a row says
 
@@ -83,21 +84,31 @@ at-row o n pre (x ∷ rs) r l h (mtail m) =
     let k = at-row (o + size isa (x .what)) n (pre ++ b) rs r (length-append pre b ∙ (let z = length-bytes isa (x .offset) (x .what) in omega arith)) (h .1) m in
     (k .0, ap (drop (r .offset)) (sym (append-assoc pre b (bytesOf isa rs))) ∙ k .1)
 
--- the offset behind a row is the next row's, or the end
-behind-row : (o n : ℕ) (rs : List (Row isa)) (r : Row isa) → Chain isa o rs n → Mem r rs
-    → ((q : Row isa) × Mem q rs × (q .offset ≡ r .offset + size isa (r .what))) ⊎ (r .offset + size isa (r .what) ≡ n)
-behind-row o n (x ∷ rs) r h (mtail m) = up (behind-row (o + size isa (x .what)) n rs r (h .1) m)
-  where
-    up : ((q : Row isa) × Mem q rs × (q .offset ≡ r .offset + size isa (r .what))) ⊎ (r .offset + size isa (r .what) ≡ n)
-        → ((q : Row isa) × Mem q (x ∷ rs) × (q .offset ≡ r .offset + size isa (r .what))) ⊎ (r .offset + size isa (r .what) ≡ n)
-    up (inl t) = inl (t .0, mtail (t .1), t .2)
-    up (inr e) = inr e
-behind-row o n (x ∷ []) r h (mhead e) =
-    let z : r .offset + size isa (r .what) ≡ x .offset + size isa (x .what) = ap (λ (y : Row isa). y .offset + size isa (y .what)) e in
-    inr (z ∙ ap (λ (i : ℕ). i + size isa (x .what)) (h .0) ∙ h .1)
-behind-row o n (x ∷ (y ∷ rs)) r h (mhead e) =
-    let z : r .offset + size isa (r .what) ≡ x .offset + size isa (x .what) = ap (λ (y : Row isa). y .offset + size isa (y .what)) e in
-    inl (y, mtail (mhead refl), h .1 .0 ∙ ap (λ (i : ℕ). i + size isa (x .what)) (sym (h .0)) ∙ sym z)
+-- the rows are what is read of their bytes
+
+read-row : (o : ℕ) (w : What isa) → Closed isa laws o w → (rest : List ℕ)
+    → instructionsFrom lastOpcode o (bytesAt isa o w ++ rest)
+    ≡ before (record { offset = o; what = said o w; size = size isa w }) (instructionsFrom lastOpcode (o + size isa w) rest)
+read-row o w v rest =
+    let b = said-bytes o w v in
+    let z : length (isa .bytes (said o w)) ≡ size isa w = ap length b ∙ length-bytes isa o w in
+    ap (λ (l : List ℕ). instructionsFrom lastOpcode o (l ++ rest)) (sym b) ∙ read-formed o (said o w) (said-formed o w v) rest
+    ∙ ap (λ (m : ℕ). before (record { offset = o; what = said o w; size = m }) (instructionsFrom lastOpcode (o + m) rest)) z
+
+abbrev pub readRows : ℕ → List (Row isa) → Read
+readRows n rows = record { spots = program rows; stop = n; fault = none }
+
+read-rows : (o n : ℕ) (rs : List (Row isa)) → Chain isa o rs n
+    → ((r : Row isa) → Mem r rs → Closed isa laws (r .offset) (r .what))
+    → instructionsFrom lastOpcode o (bytesOf isa rs) ≡ readRows n rs
+unfolding decode
+read-rows o n [] h v = instructions-step lastOpcode o [] ∙ ap (λ (x : ℕ). readRows x []) h
+read-rows o n (r ∷ rs) h v =
+    let more = read-rows (o + size isa (r .what)) n rs (h .1) (λ q m. v q (mtail m)) in
+    let one = read-row (r .offset) (r .what) (v r (mhead refl)) (bytesOf isa rs) in
+    let at = h .0 in
+    ap (λ (x : ℕ). instructionsFrom lastOpcode x (bytesOf isa (r ∷ rs))) (sym at) ∙ one
+    ∙ ap (before (spotOf r)) (ap (λ (x : ℕ). instructionsFrom lastOpcode (x + size isa (r .what)) (bytesOf isa rs)) at ∙ more)
 
 module _ (rows : List (Row isa)) (n : ℕ) (chain : Chain isa 0 rows n) (closed : (r : Row isa) → Mem r rows → Closed isa laws (r .offset) (r .what)) where
   abbrev pub code : List ℕ
@@ -114,59 +125,25 @@ module _ (rows : List (Row isa)) (n : ℕ) (chain : Chain isa 0 rows n) (closed 
   pub end-stands : {o : ℕ} {f : Flow} → n ≡ o → Stands lastOpcode code o f → ⊥
   end-stands {o} {f} e h = let z = stands-size h in omega (arith, z .0, z .1, code-length)
 
-  -- places are the rows' offsets and the end
+  -- reading gives the rows and no fault; places are the rows' offsets and the end
 
-  places : (o : ℕ) (rs : List (Row isa)) → Chain isa o rs n → ((r : Row isa) → Mem r rs → Mem r rows)
-      → Place lastOpcode code o
-      → ((r : Row isa) → Mem r rs → Place lastOpcode code (r .offset)) × Place lastOpcode code n
-  places o [] h sub p = ((λ r m. absurd (List·Memᴰ·not-nil m)), subst (Place lastOpcode code) h p)
-  places o (x ∷ rs) h sub p =
-      let px : Place lastOpcode code (x .offset) = subst (Place lastOpcode code) (sym (h .0)) p in
-      let q = places (o + size isa (x .what)) rs (h .1) (λ r m. sub r (mtail m)) (next px (row-stands x (sub x (mhead refl))) (ap (λ (i : ℕ). i + size isa (x .what)) (h .0))) in
-      (here px (q .0), q .1)
-    where
-      here : Place lastOpcode code (x .offset) → ((r : Row isa) → Mem r rs → Place lastOpcode code (r .offset))
-          → (r : Row isa) → Mem r (x ∷ rs) → Place lastOpcode code (r .offset)
-      here px f r (mhead e) = subst (λ (y : Row isa). Place lastOpcode code (y .offset)) (sym e) px
-      here px f r (mtail m) = f r m
+  pub reads-rows : instructionsIn lastOpcode code ≡ readRows n rows
+  reads-rows = read-rows 0 n rows chain closed
+
+  at-place : (o : ℕ) → Mem o (placesIn (readRows n rows)) → Place lastOpcode code o
+  at-place o m = record { is = rw reads-rows m }
 
   pub row-place : (r : Row isa) → Mem r rows → Place lastOpcode code (r .offset)
-  row-place r m = places 0 rows chain (λ q k. k) first .0 r m
+  row-place r m = at-place (r .offset) (Memᴰ·append-left (n ∷ []) (mem-map (λ (x : Spot). x .offset) (mem-map spotOf m)))
 
   pub end-place : Place lastOpcode code n
-  end-place = places 0 rows chain (λ q k. k) first .1
-
-  pub place-row : {o : ℕ} → Place lastOpcode code o → ((r : Row isa) × Mem r rows × (r .offset ≡ o)) ⊎ (n ≡ o)
-  place-row first = begin rows chain (λ r m. m)
-    where
-      begin : (rs : List (Row isa)) → Chain isa 0 rs n → ((r : Row isa) → Mem r rs → Mem r rows) → ((r : Row isa) × Mem r rows × (r .offset ≡ 0)) ⊎ (n ≡ 0)
-      begin [] h sub = inr (sym h)
-      begin (x ∷ rs) h sub = inl (x, sub x (mhead refl), h .0)
-  place-row (next {o = p} {q = q} {f = f} pp st e) = go (place-row pp)
-    where
-      on : (r : Row isa) → r .offset ≡ p → f .size ≡ size isa (r .what) → ((y : Row isa) × Mem y rows × (y .offset ≡ r .offset + size isa (r .what))) ⊎ (r .offset + size isa (r .what) ≡ n)
-          → ((r : Row isa) × Mem r rows × (r .offset ≡ q)) ⊎ (n ≡ q)
-      on r eo ef (inl t) = inl (t .0, t .1, omega (arith, t .2))
-      on r eo ef (inr t) = inr (omega arith)
-
-      go : ((r : Row isa) × Mem r rows × (r .offset ≡ p)) ⊎ (n ≡ p) → ((r : Row isa) × Mem r rows × (r .offset ≡ q)) ⊎ (n ≡ q)
-      go (inl t) =
-          let same = stands-one st (subst (λ (x : ℕ). Stands lastOpcode code x (flowAt (length code) (t .0 .offset) (t .0 .what))) (t .2) (row-stands (t .0) (t .1))) in
-          on (t .0) (t .2) (ap (λ (y : Flow). y .size) same) (behind-row 0 n rows (t .0) chain (t .1))
-      go (inr t) = absurd (end-stands t st)
-
-  -- reading meets no fault
-
-  end-flow : flowOf lastOpcode n (drop n code) ≡ F.End
-  unfolding flowOf decode
-  end-flow = let e : drop n code ≡ [] = ap (drop n) (sym (append-nil code)) ∙ drop-at code [] n code-length in rw e refl
+  end-place = at-place n (Memᴰ·append-right (map (λ (x : Spot). x .offset) (program rows)) (mhead refl))
 
   pub whole : (q : Refusal) → Faulty lastOpcode code q → ⊥
-  whole q a = go (place-row (a .place))
-    where
-      go : ((r : Row isa) × Mem r rows × (r .offset ≡ a .offset)) ⊎ (n ≡ a .offset) → ⊥
-      go (inl t) = stands-no-fault (subst (λ (x : ℕ). Stands lastOpcode code x (flowAt (length code) (t .0 .offset) (t .0 .what))) (t .2) (row-stands (t .0) (t .1))) (a .fault)
-      go (inr e) = end-no-fault lastOpcode code n end-flow (rw (← e) at (a .fault))
+  whole q a =
+      let e : none ≡ some q = sym (ap (λ (read : Read). read .fault) reads-rows) ∙ a .is in
+      let z : _≡_ {A = ℕ} 0 1 = cc in
+      omega arith
 
   -- the rows' offsets rise
   rising-from : (o : ℕ) (rs : List (Row isa)) → Chain isa o rs n → Rising o (map (λ (r : Row isa). r .offset) rs)

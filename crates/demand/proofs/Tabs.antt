@@ -1,7 +1,7 @@
 -- Laws of tables as lists of rows: a row more at the used end, and one cell that changes.
 -- Assumes nothing.
 use mathlib.Core.Path.{_≡_, refl, sym, ap, _∙_}
-use mathlib.Core.Bool.{Bool, true, false}
+use mathlib.Core.Bool.{Bool, true, false, cond}
 use mathlib.Core.Logic.{_≢_}
 use mathlib.Core.List.{List, [], _∷_, _++_, append-assoc}
 use mathlib.Core.Option.{some}
@@ -13,7 +13,6 @@ use native.Mathlib.Omega.{arith}
 use lib.Dec.{eqb}
 use lib.ListN.{length, take, drop, getD, set, getElem?, length-append, List·getD-append}
 use lib.Seq.{set-at, set-append-left, getD-set-same, getD-set-other, getD-append-add, getD-take, length-take-le, sets-eq, take-set-lt}
-use Rattle.op.specs.Choice.{pick}
 use Rattle.code.specs.Bytes.{wordBytes}
 use Rattle.builder.specs.declared.marks.Mark.the-variants.{Absent, Open, Patched, Target}
 use Rattle.code.specs.Tables.{markCells, startCells, put}
@@ -105,7 +104,7 @@ open-fields : (kind x y o d : ℕ) → markOf kind x y ≡ Open o d → (x ≡ o
 unfolding markOf
 open-fields kind x y o d e = go (eqb kind openKind) (eqb kind patchedKind) (eqb kind targetKind) e
   where
-    go : (p q r : Bool) → pick p (Open x y) (pick q (Patched x y) (pick r (Target x y) Absent)) ≡ Open o d → (x ≡ o) × (y ≡ d)
+    go : (p q r : Bool) → cond p (Open x y) (cond q (Patched x y) (cond r (Target x y) Absent)) ≡ Open o d → (x ≡ o) × (y ≡ d)
     go true q r e = (cc, cc)
     go false true r e = (cc, cc)
     go false false true e = (cc, cc)

@@ -9,7 +9,6 @@ use lib.Seq.{length-take-le}
 use Rattle.op.specs.Opcodes.{lastOpcode}
 use Rattle.builder.specs.State.{Kept, kept}
 use Rattle.builder.specs.Regions.{newOf}
-use Rattle.builder.specs.Names.{buildOf}
 use Rattle.code.specs.Tables.{codeLimit}
 use Rattle.builder.specs.declared.Answer.the-variants.{Accepted}
 use Rattle.builder.specs.declared.Depth.{Depth}
@@ -17,13 +16,13 @@ use Rattle.builder.specs.declared.Depth.the-variants.{Dead, Live}
 use Rattle.checker.specs.Promise.{Promise}
 use Rattle.checker.specs.declared.Checked.{Checked}
 use Rattle.demand.specs.Machine.{isa}
-use Rattle.demand.specs.History.{ok, waits, leap, Row, History, blank}
-use Rattle.demand.specs.Calls.{build}
-use Rattle.demand.specs.World.{World, Made}
+use Rattle.demand.specs.History.{waits, leap, Row, History}
+use Rattle.demand.specs.World.{World}
 use Rattle.demand.specs.Demand.{InDepth, begun, finished, regionStarts, cells, Accepts, Demand, Demanded}
-use Rattle.demand.proofs.Bytes.{bytesOf, reads-rows, depth-row, Closed}
+use Rattle.demand.proofs.Bytes.{bytesOf, depth-row, Closed}
 use Rattle.demand.proofs.Machining.{laws}
 use Rattle.demand.proofs.Pairs.{cells-tab}
+use Rattle.demand.proofs.Standing.{reads-rows}
 use Rattle.demand.proofs.Views.{new-view}
 use Rattle.demand.proofs.Within.{new-within}
 use Rattle.demand.proofs.Ties.{Tied, Small, book, fresh, fresh-tied, tied-end}
@@ -59,7 +58,7 @@ finish w w′ h i t B =
     rw (B .state, B .code, B .starts) (checked-at b g c (finished w) (regionStarts w) (length (finished w)) ec es en short) in
     record {
       unchanged = (B .state, B .code, B .starts);
-      reads = rw (B .state, B .code, ec) (reads-rows isa laws (h .end) (h .rows) (g .chain) c);
+      reads = rw (B .state, B .code, en, ec) (reads-rows (h .rows) (h .end) (g .chain) c);
       settled = settled w w′ h t B;
       starts = rw (B .state, B .starts) (es ∙ ap cells (t .starts));
       before = λ r m. rw (B .state, B .code, en) (depth-row isa laws 0 (h .rows) (h .end) (w .state .core .depth) r (g .chain) m);

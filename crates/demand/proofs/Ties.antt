@@ -1,7 +1,7 @@
 -- The view and the history go together: each move of the view keeps what ties them.
 -- Assumes nothing.
 use mathlib.Core.Path.{_≡_, refl, sym, ap, _∙_}
-use mathlib.Core.Bool.{Bool, true, false}
+use mathlib.Core.Bool.{Bool, true, false, cond}
 use mathlib.Core.Logic.{_⊎_, inl, inr}
 use mathlib.Core.List.{List, [], _∷_, _++_, append-nil, List·Memᴰ·not-nil}
 use mathlib.Core.Option.{Option, some}
@@ -10,7 +10,6 @@ use native.Mathlib.Omega.{arith}
 use lib.IntN.{pos}
 use lib.ListN.{length, set, getElem?}
 use borrow.Author.Tests.{eq-eqb, ne-eqb, eqb-true}
-use Rattle.op.specs.Choice.{pick}
 use Rattle.op.specs.Depths.{afterOf, takenDepthOf}
 use Rattle.op.specs.Effects.{deadMaker}
 use Rattle.op.specs.declared.After.the-variants as A
@@ -31,7 +30,8 @@ use Rattle.builder.specs.declared.marks.Mark.{Mark}
 use Rattle.builder.specs.declared.marks.Mark.the-variants.{Open, Patched, Target}
 use Rattle.builder.proofs.Displacing.{displaced}
 use Rattle.builder.proofs.Plans.{after-shape}
-use Rattle.demand.specs.Machine.{instruction, inRange, isa}
+use Rattle.code.specs.Reading.{instruction}
+use Rattle.demand.specs.Machine.{inRange, isa}
 use Rattle.demand.specs.History.{waits, to, What, one, leap, Row}
 use Rattle.demand.specs.History.{Call, emit, emitJump, emitJumpTo, patchJump, jumpTarget, newRegion, other, Given, no, ok}
 use Rattle.demand.specs.History.{History, born, blank, add, patchHere, targetHere, startHere, look, seen}
@@ -96,7 +96,7 @@ after-behind : (k e : ℕ) (x : Option ℕ) → x ≡ some e → after isa (dead
 unfolding behind
 after-behind k e x h = rw h (go (deadMaker k))
   where
-    go : (b : Bool) → after isa b (some e) ≡ pick b Dead (Live e)
+    go : (b : Bool) → after isa b (some e) ≡ cond b Dead (Live e)
     go true = refl
     go false = refl
 

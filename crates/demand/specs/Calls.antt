@@ -1,12 +1,12 @@
 -- The public calls of the builder with their arguments, and what the history takes them for.
 -- Assumes nothing.
+use mathlib.Core.Bool.{cond}
 use mathlib.Core.List.{List, [], _∷_}
 use Prim.Native.Nat.{ℕ, _<_, _%_}
 use lib.Dec.{leb, ltb, eqb}
 use lib.IntN.{ℤ}
 use lib.ListN.{getD, length}
 use lib.Signed.{mag}
-use Rattle.op.specs.Choice.{pick}
 use Rattle.op.specs.Chosen.{LoadLocal0, LoadLocal1, LoadLocal2, LoadLocal3, LoadLocal, LoadLocalW, StoreLocal, StoreLocalW}
 use Rattle.op.specs.Chosen.{LoadGlobalCallable, CallBuiltinFunction, CallBuiltinType, CallFunctionKw, CallAttrKw}
 use Rattle.op.specs.Opcodes.{RaiseUnboundLocal}
@@ -67,22 +67,22 @@ pub data PublicCall : Type 0 where
 -- builder.rs, `emit_load_local`: slots 0 to 3 have opcodes of their own, then a byte, then a word
 abbrev pub loads : ℕ → Call
 loads slot =
-    pick (eqb slot 0) (emit LoadLocal0 O.None [])
-    (pick (eqb slot 1) (emit LoadLocal1 O.None [])
-    (pick (eqb slot 2) (emit LoadLocal2 O.None [])
-    (pick (eqb slot 3) (emit LoadLocal3 O.None [])
-    (pick (leb slot 255) (emit LoadLocal (O.U8 slot) [])
+    cond (eqb slot 0) (emit LoadLocal0 O.None [])
+    (cond (eqb slot 1) (emit LoadLocal1 O.None [])
+    (cond (eqb slot 2) (emit LoadLocal2 O.None [])
+    (cond (eqb slot 3) (emit LoadLocal3 O.None [])
+    (cond (leb slot 255) (emit LoadLocal (O.U8 slot) [])
     (emit LoadLocalW (O.U16 slot) [])))))
 
 -- builder.rs, `emit_store_local`: a byte, then a word
 abbrev pub stores : ℕ → Call
-stores slot = pick (leb slot 255) (emit StoreLocal (O.U8 slot) []) (emit StoreLocalW (O.U16 slot) [])
+stores slot = cond (leb slot 255) (emit StoreLocal (O.U8 slot) []) (emit StoreLocalW (O.U16 slot) [])
 
 -- the calls by number, from 0 on, on numbers as C gives them and `n` keyword names; where one is too large for its field
 -- nothing is emitted
 
 abbrev pub fitting : (limit number : ℕ) → Call → Call
-fitting limit number call = pick (ltb number limit) call other
+fitting limit number call = cond (ltb number limit) call other
 
 abbrev pub byNumber : (opcode a b c n : ℕ) → List Call
 byNumber k a b c n =

@@ -12,6 +12,7 @@ use contract.Lifetimes.{Lfts}
 use lib.ListN.{length, take}
 use Rattle.op.specs.Opcodes.{lastOpcode}
 use Rattle.code.specs.Depths.{Smallest, Derived}
+use Rattle.code.specs.Reading.{instructionsIn}
 use Rattle.code.specs.Tables.{noDepth, startCells}
 use Rattle.builder.specs.declared.Answer.the-variants.{Accepted}
 use Rattle.builder.specs.declared.Depth.{Depth}
@@ -22,7 +23,6 @@ use Rattle.checker.specs.declared.Checked.{Checked}
 use Rattle.checker.specs.declared.Checked.the-variants as C
 use Rattle.checker.proofs.check.Reads.{Learnt as check-says}
 use Rattle.checker.proofs.check_built.Reads.{Learnt as check-built-says}
-use Rattle.demand.specs.Isa.{reading}
 use Rattle.demand.specs.Machine.{isa}
 use Rattle.demand.specs.History.{ok, waits, leap, Row, program, depthAt, History, blank}
 use Rattle.demand.specs.Calls.{U16, build}
@@ -77,8 +77,9 @@ Accepts w h r checked =
 pub record Demand (w w′ : World) (h : History) : Type 0 where
   -- `build` leaves the state, the code and the starts as they were
   pub unchanged : (w′ .state ≡ w .state) × (w′ .code ≡ w .code) × (w′ .starts ≡ w .starts)
-  -- "reading the finished bytes gives exactly the instructions accepted while live, in order, each jump with its final displacement"
-  pub reads : reading isa (finished w′) ≡ some (program isa (h .rows))
+  -- "reading the finished bytes gives exactly the instructions accepted while live, in order, each jump with its final
+  -- displacement"
+  pub reads : instructionsIn lastOpcode (finished w′) ≡ record { spots = program (h .rows); stop = length (finished w′); fault = none }
   -- every jump has its place: none waits for its label
   pub settled : (r : Row isa) → List·Memᴰ r (h .rows) → (k l : ℕ) → r .what ≡ leap k (waits l) → ⊥
   -- the starts are a live new builder's and the regions' opened, no others

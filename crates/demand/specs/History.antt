@@ -1,15 +1,16 @@
 -- The history: the instructions accepted while live, each with its offset and the depth before it. It comes from the calls, their
 -- answers and the depths before them, never from bytes.
 -- Assumes nothing.
+use mathlib.Core.Bool.{cond}
 use mathlib.Core.List.{List, [], _∷_, _++_, map}
 use mathlib.Core.Option.{Option, some, none}
 use Prim.Native.Nat.{ℕ, _+_}
 use lib.Dec.{eqb}
 use lib.IntN.{pos, subℕ}
 use lib.ListN.{length}
-use Rattle.op.specs.Choice.{pick}
 use Rattle.op.specs.declared.Operand.{Operand}
 use Rattle.op.specs.declared.Refusal.{Refusal}
+use Rattle.code.specs.Reading.{Spot, instruction}
 use Rattle.code.specs.Tables.{jumpSize}
 use Rattle.builder.specs.declared.Depth.{Depth}
 use Rattle.builder.specs.declared.Depth.the-variants.{Dead, Live}
@@ -17,8 +18,8 @@ use Rattle.builder.specs.declared.JumpLabel.{JumpLabel}
 use Rattle.builder.specs.declared.JumpLabel.the-variants as L
 use Rattle.builder.specs.declared.JumpTarget.{JumpTarget}
 use Rattle.builder.specs.declared.JumpTarget.the-variants as T
-use Rattle.demand.specs.Isa.{Isa, Placed}
-use Rattle.demand.specs.Machine.{isa, instruction}
+use Rattle.demand.specs.Isa.{Isa}
+use Rattle.demand.specs.Machine.{isa}
 
 -- where a jump goes: where its label will be patched, or a place
 pub data Aim : Type 0 where
@@ -52,16 +53,9 @@ module _ (I : Isa) where
   final o (leap j (waits l)) = I .jump j (pos 0)
   final o (leap j (to t)) = I .jump j (subℕ t (o + jumpSize))
 
-  abbrev pub placed : Row I → Placed I
-  placed r = (r .offset, final (r .offset) (r .what))
-
-  -- the instructions in order, with their offsets
-  abbrev pub program : List (Row I) → List (Placed I)
-  program rows = map placed rows
-
   abbrev pub aimed : ℕ → ℕ → What I → What I
   aimed l t (one p) = one p
-  aimed l t (leap j (waits m)) = leap j (pick (eqb m l) (to t) (waits m))
+  aimed l t (leap j (waits m)) = leap j (cond (eqb m l) (to t) (waits m))
   aimed l t (leap j (to u)) = leap j (to u)
 
   -- the jump of the label l goes to t
@@ -70,8 +64,16 @@ module _ (I : Isa) where
 
   -- the depth at an offset: an instruction's, the end's if it is live, and nowhere else one
   abbrev pub depthAt : List (Row I) → ℕ → Depth → ℕ → Option ℕ
-  depthAt [] n here o = pick (eqb n o) (atEnd here) none
-  depthAt (r ∷ rs) n here o = pick (eqb (r .offset) o) (some (r .depth)) (depthAt rs n here o)
+  depthAt [] n here o = cond (eqb n o) (atEnd here) none
+  depthAt (r ∷ rs) n here o = cond (eqb (r .offset) o) (some (r .depth)) (depthAt rs n here o)
+
+-- a row as it is to be read
+abbrev pub spotOf : Row isa → Spot
+spotOf r = record { offset = r .offset; what = final isa (r .offset) (r .what); size = size isa (r .what) }
+
+-- the instructions in order, each where it stands
+abbrev pub program : List (Row isa) → List Spot
+program rows = map spotOf rows
 
 -- the kinds of calls: an instruction with its names, the calls about jumps and regions, and those that emit nothing
 pub data Call : Type 0 where
@@ -130,7 +132,7 @@ startHere h d = record { rows = h .rows; end = h .end; targets = h .targets; sta
 -- the offset of a target
 abbrev pub look : List (ℕ × ℕ) → ℕ → ℕ
 look [] i = 0
-look (x ∷ l) i = pick (eqb (x .0) i) (x .1) (look l i)
+look (x ∷ l) i = cond (eqb (x .0) i) (x .1) (look l i)
 
 -- by the answer: what an accepted call, a label or a target adds, else the history as it was
 abbrev pub onOk : Given → History → History → History

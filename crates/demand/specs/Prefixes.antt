@@ -5,7 +5,8 @@ use mathlib.Core.Path.{_≡_}
 use mathlib.Core.List.{List, [], _∷_, _++_, List·Memᴰ}
 use Prim.Native.Nat.{ℕ}
 use Rattle.code.specs.Encode.{Formed}
-use Rattle.demand.specs.Machine.{Instruction, isa}
+use Rattle.code.specs.Reading.{Instruction}
+use Rattle.demand.specs.Machine.{isa}
 
 -- an instruction that can be written
 abbrev pub WellFormed : Instruction → Type 0

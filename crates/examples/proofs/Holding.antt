@@ -13,6 +13,7 @@ use Rattle.code.specs.Encode.{encode}
 use Rattle.code.specs.Entries.{findFrom, tableOf}
 use Rattle.code.specs.Flow.{goalBy, flowOf}
 use Rattle.code.specs.Lookups.{coversOf, firstCovering, handlerOf}
+use Rattle.code.specs.Reading.{instructionsFrom, readUpTo}
 use Rattle.code.specs.Rows.{first}
 use Rattle.code.specs.Tables.{put}
 use Rattle.builder.specs.Marks.{bits, fits, markIn, markOf, markable, near}
@@ -27,7 +28,7 @@ use Rattle.checker.proofs.Certificate.{certificate, must-accept, must-refuse}
 use Rattle.examples.specs.Table.{Examples, code-a, code-k, from-zero}
 
 pub hold : Examples
-unfolding landing effectBy effectOf takenOf deadMaker table known rowOf shapeOf sizeOf signed operandIn decode stepIn shapeUpTo encode findFrom tableOf goalBy flowOf coversOf firstCovering handlerOf first put soundOf behind emittingOf enterOf planOf emitCore emitNamed markOf markIn fits markable near bits jumpPlanOf emitJumpOf toPlanOf jumpToCore emitJumpToOf markPlanOf patchPlanOf patchJumpOf addConstOf held certificate
+unfolding landing effectBy effectOf takenOf deadMaker table known rowOf shapeOf sizeOf signed operandIn decode stepIn shapeUpTo encode findFrom tableOf goalBy flowOf coversOf firstCovering handlerOf first put soundOf behind emittingOf enterOf planOf emitCore emitNamed markOf markIn fits markable near bits jumpPlanOf emitJumpOf toPlanOf jumpToCore emitJumpToOf markPlanOf patchPlanOf patchJumpOf addConstOf held instructionsFrom readUpTo certificate
 hold = record {
   a = λ d d′ r room P. must-accept _ code-a from-zero (0 ∷ 1 ∷ 65536 ∷ 65536 ∷ 0 ∷ 65536 ∷ 1 ∷ 0 ∷ 1 ∷ 65536 ∷ []) 6 tt (omega arith) d d′ r room P;
   b = (refl, λ code n. rw n refl);

@@ -1,7 +1,7 @@
 -- Laws of the progress of a listing: a line more fills the buffer on, and leaves fewer turns.
 -- Assumes nothing.
 use mathlib.Core.Path.{_≡_, refl, sym, ap, _∙_, subst}
-use mathlib.Core.Bool.{Bool, true, false, _&&_}
+use mathlib.Core.Bool.{Bool, true, false, cond, _&&_}
 use mathlib.Core.List.{List, [], _++_, append-nil, append-assoc}
 use Prim.Native.Nat.{ℕ, suc, _-_, _≤_, _<_}
 use native.Mathlib.Decide.{decLt}
@@ -11,7 +11,6 @@ use lib.ListN.{length, getD, drop}
 use lib.Seq.{length-sets}
 use borrow.Author.Tests.{leb-true, leb-false}
 use Rattle.op.specs.Opcodes.{lastOpcode}
-use Rattle.op.specs.Choice.{pick}
 use Rattle.op.specs.Names.{nameText, nameStarts, nameBy}
 use Rattle.op.specs.declared.Refusal.the-variants.{TooLarge}
 use Rattle.code.specs.Decode.{decode}
@@ -53,7 +52,7 @@ onward-of names starts code at old to answer out l = subst (λ (x : Lined). Onwa
     placed = placedOf old to (lineOf (nameBy names starts) at (drop at code))
 
     by : (b : Bool)
-        → Onward (afterAt code at) (pick b (linedBy at placed (decode lastOpcode at (drop at code))) (L.Refused TooLarge))
+        → Onward (afterAt code at) (cond b (linedBy at placed (decode lastOpcode at (drop at code))) (L.Refused TooLarge))
     by true = onward-by at placed (decode lastOpcode at (drop at code))
     by false = tt
 
@@ -95,7 +94,7 @@ onward code at old to p q out out′ m f g = record {
   puts = then (f .puts) (g .puts);
   fits = omega (arith, g .fits, ap length (f .puts .out-is), length-sets old to (f .text));
   rest =
-      f .rest ∙ ap (λ (b : Bool). f .text ++ pick b (restOf code (p .at)) []) m ∙ ap (λ (l : List ℕ). f .text ++ l) (g .rest)
+      f .rest ∙ ap (λ (b : Bool). f .text ++ cond b (restOf code (p .at)) []) m ∙ ap (λ (l : List ℕ). f .text ++ l) (g .rest)
       ∙ sym (append-assoc (f .text) (g .text) (left code q));
 }
 
@@ -108,7 +107,7 @@ pub first-short : (n : ℕ) → length (firstLine n) ≤ 28
 unfolding firstLine header faultLine Rattle.text.specs.Decimal.decimal Rattle.text.specs.Decimal.upTo
 first-short n = by (leb n most)
   where
-    by : (b : Bool) → length (pick b header (faultLine 0 Rattle.op.specs.declared.Refusal.the-variants.TooLarge)) ≤ 28
+    by : (b : Bool) → length (cond b header (faultLine 0 Rattle.op.specs.declared.Refusal.the-variants.TooLarge)) ≤ 28
     by true = omega arith
     by false = omega arith
 
@@ -125,16 +124,16 @@ pub reached-first : (code : List ℕ) (at : ℕ) (old : List ℕ) (to : ℕ) →
 reached-first code at old to h = record { fills = unfilled code at old to h; fewer = omega arith; still = λ e. refl }
 
 -- what the test says
-pub ready-true : (m : Bool) (n : ℕ) → pick m (leb 2048 n) false ≡ true → (m ≡ true) × (2048 ≤ n)
+pub ready-true : (m : Bool) (n : ℕ) → cond m (leb 2048 n) false ≡ true → (m ≡ true) × (2048 ≤ n)
 ready-true true n e = (refl, leb-true 2048 n e)
 ready-true false n e = let y : _≡_ {A = ℕ} 0 1 = cc in let z : ⊥ = omega arith in absurd z
 
 pub turns-left : (code : List ℕ) (p : Progress) → p .more ≡ true → turns code p ≡ suc (length code - p .at)
-turns-left code p m = ap (λ (b : Bool). pick b (suc (length code - p .at)) 0) m
+turns-left code p m = ap (λ (b : Bool). cond b (suc (length code - p .at)) 0) m
 
 -- a turn of the loop
 module _ {code old out out′ : List ℕ} {at to : ℕ} {p q : Progress} (r : Reached code at old to p out)
-    (ready : pick (p .more) (leb 2048 (length out - p .to)) false ≡ true) (l : Told code (p .at) out (p .to) q out′) where
+    (ready : cond (p .more) (leb 2048 (length out - p .to)) false ≡ true) (l : Told code (p .at) out (p .to) q out′) where
   is-ready : (p .more ≡ true) × (2048 ≤ length out - p .to)
   is-ready = ready-true (p .more) (length out - p .to) ready
 
@@ -152,12 +151,12 @@ module _ {code old out out′ : List ℕ} {at to : ℕ} {p q : Progress} (r : Re
 
 -- its end: some turns were used up
 pub reached-end : (code : List ℕ) (at : ℕ) (old : List ℕ) (to : ℕ) (p : Progress) (out : List ℕ) → Reached code at old to p out
-    → pick (p .more) (leb 2048 (length out - p .to)) false ≡ false → 2048 ≤ length old - to → turns code p < suc (length code - at)
+    → cond (p .more) (leb 2048 (length out - p .to)) false ≡ false → 2048 ≤ length old - to → turns code p < suc (length code - at)
 reached-end code at old to p out r e h = by (decLt (turns code p) (suc (length code - at)))
   where
-    stuck : (m : Bool) → p .more ≡ m → pick m (leb 2048 (length out - p .to)) false ≡ false → turns code p ≡ suc (length code - at) → ⊥
+    stuck : (m : Bool) → p .more ≡ m → cond m (leb 2048 (length out - p .to)) false ≡ false → turns code p ≡ suc (length code - at) → ⊥
     stuck true q e t = omega (arith, leb-false 2048 (length out - p .to) e, r .still t, reached-length r)
-    stuck false q e t = omega (arith, ap (λ (b : Bool). pick b (suc (length code - p .at)) 0) q)
+    stuck false q e t = omega (arith, ap (λ (b : Bool). cond b (suc (length code - p .at)) 0) q)
 
     by : Dec (turns code p < suc (length code - at)) → turns code p < suc (length code - at)
     by (yes g) = g

@@ -1,11 +1,10 @@
 -- How far a listing is, and that what waits to be written is the next part of it.
 -- Assumes nothing.
 use mathlib.Core.Path.{_≡_}
-use mathlib.Core.Bool.{true, false}
+use mathlib.Core.Bool.{true, false, cond}
 use mathlib.Core.List.{List, [], _++_}
 use Prim.Native.Nat.{ℕ, suc, _-_, _≤_, _<_}
 use lib.ListN.{length}
-use Rattle.op.specs.Choice.{pick}
 use Rattle.op.specs.Names.{nameText, nameStarts}
 use Rattle.reader.specs.Reader.{afterAt}
 use Rattle.text.specs.Listing.{restOf}
@@ -23,11 +22,11 @@ passedBy (L.Refused r) at to = record { at = at; to = to; more = false }
 
 -- the lines that are left
 abbrev pub left : List ℕ → Progress → List ℕ
-left code p = pick (p .more) (restOf code (p .at)) []
+left code p = cond (p .more) (restOf code (p .at)) []
 
 -- how much is left to do
 abbrev pub turns : List ℕ → Progress → ℕ
-turns code p = pick (p .more) (suc (length code - p .at)) 0
+turns code p = cond (p .more) (suc (length code - p .at)) 0
 
 -- what was put from a place on, and what is then left, is the listing from an offset on
 pub record Fills (code : List ℕ) (at : ℕ) (old : List ℕ) (to : ℕ) (p : Progress) (out : List ℕ) : Type 0 where

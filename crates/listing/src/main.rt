@@ -1,11 +1,10 @@
 // Lists the code on standard input, as document 01 says: the bytes printed are `text`'s definition `listingOf`. Lines are gathered
 // in a buffer and written when the next may not fit.
 ghost use mathlib.Core.Path.{_≡_};
-ghost use mathlib.Core.Bool.{false};
+ghost use mathlib.Core.Bool.{false, cond};
 ghost use Prim.Native.Nat.{suc, _-_, _≤_, _<_};
 ghost use lib.Dec.{leb};
 ghost use lib.ListN.{length};
-ghost use Rattle.op.specs.Choice.{pick};
 ghost use Rattle.op.specs.Names.{nameText, nameStarts};
 ghost use Rattle.listing.specs.Progress.{passedBy, turns, Fills, Told, Lent};
 use libc::STDIN_FILENO;
@@ -61,7 +60,7 @@ fn passed(lined: Lined, at: usize, to: usize) -> Progress
 
 // Whether there are more lines, and room for any of them.
 fn ready(more: bool, size: usize, to: usize) -> bool
-    ensures { λ r. ⌜ r ≡ pick more (leb 2048 (size - to)) false ⌝ }
+    ensures { λ r. ⌜ r ≡ cond more (leb 2048 (size - to)) false ⌝ }
 {
     if more {
         return lines::LINE <= put::room(size, to);

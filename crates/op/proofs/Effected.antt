@@ -1,11 +1,10 @@
 -- Laws of `shapeOf` and `effectOf`: what a known shape says of the effect.
 -- Assumes nothing.
 use mathlib.Core.Path.{_≡_, refl, _∙_, sym, ap}
-use mathlib.Core.Bool.{Bool, true, false}
+use mathlib.Core.Bool.{Bool, true, false, cond}
 use Prim.Native.Nat.{ℕ}
 use native.Mathlib.Omega.{arith}
 use borrow.Author.Tests.{eq-eqb, ne-eqb}
-use Rattle.op.specs.Choice.{pick}
 use Rattle.op.specs.Opcodes.{known, rowOf}
 use Rattle.op.specs.Shapes.{shapeNumber, shapeIn, shapeOf, operandShape}
 use Rattle.op.specs.Effects.{ruleIn, ruleNo, ruleAt, effectBy, effectOf, formerOf, lastOf}
@@ -23,7 +22,7 @@ pub shape-is : (k : ℕ) (s : Shape) → shapeOf k ≡ Is s → (known k ≡ tru
 unfolding shapeOf
 shape-is k s e = go (known k) refl e
   where
-    go : (b : Bool) → known k ≡ b → pick b (Is (shapeIn (rowOf k))) (Refused UnknownOpcode) ≡ Is s → (known k ≡ true) × (shapeIn (rowOf k) ≡ s)
+    go : (b : Bool) → known k ≡ b → cond b (Is (shapeIn (rowOf k))) (Refused UnknownOpcode) ≡ Is s → (known k ≡ true) × (shapeIn (rowOf k) ≡ s)
     go true q e = (q, cc)
     go false q e = absurd (let z : _≡_ {A = ℕ} 0 1 = cc in omega arith)
 
@@ -32,7 +31,7 @@ pub shape-refused : (k : ℕ) (r : Refusal) → shapeOf k ≡ Refused r → (kno
 unfolding shapeOf
 shape-refused k r e = go (known k) refl e
   where
-    go : (b : Bool) → known k ≡ b → pick b (Is (shapeIn (rowOf k))) (Refused UnknownOpcode) ≡ Refused r → (known k ≡ false) × (r ≡ UnknownOpcode)
+    go : (b : Bool) → known k ≡ b → cond b (Is (shapeIn (rowOf k))) (Refused UnknownOpcode) ≡ Refused r → (known k ≡ false) × (r ≡ UnknownOpcode)
     go true q e = absurd (let z : _≡_ {A = ℕ} 0 1 = cc in omega arith)
     go false q e = (q, cc)
 

@@ -10,7 +10,6 @@ use native.Mathlib.Omega.{arith}
 use lib.ListN.{length, getD, take, drop, length-append, List·getD-eq-default}
 use lib.Seq.{take-at, drop-append-add}
 use borrow.Author.Tests.{le-leb, lt-leb}
-use Rattle.op.specs.Choice.{pick}
 use Rattle.op.specs.Opcodes.{Row, op, same, table, rowOf}
 use Rattle.op.specs.Opcodes.{Jump, JumpIfTrue, JumpIfFalse, JumpIfTrueOrPop, JumpIfFalseOrPop, ForIter, Raise, Reraise, ReturnValue, RaiseUnboundLocal, AssertFailed}
 use Rattle.op.specs.Chosen.{LoadLocal0, LoadLocal1, LoadLocal2, LoadLocal3, LoadLocal, LoadLocalW, StoreLocal, StoreLocalW}

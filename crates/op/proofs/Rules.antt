@@ -1,14 +1,14 @@
 -- Laws of the rules of effects.
 -- Assumes nothing.
 use mathlib.Core.Path.{_≡_, refl}
-use mathlib.Core.Bool.{Bool, true, false}
+use mathlib.Core.Bool.{Bool, true, false, cond}
 use mathlib.Core.List.{List, [], _∷_}
 use Prim.Native.Nat.{ℕ, _+_, _*_, _/_, _%_, _≤_, _<_}
 use native.Mathlib.Omega.{arith}
 use lib.Dec.{eqb}
 use lib.ListN.{List·getD-eq-default}
 use Rattle.op.specs.Opcodes.{Rule, minus3, minus2, minus1, same, plus1, plus2, minus-n, one-minus-n, one-minus-2n, n-minus-one, both, minus-both, one-minus-both, extended, format, assert, assert-failed, match-keys}
-use Rattle.op.specs.Choice.{pick, isIn}
+use Rattle.op.specs.Choice.{isIn}
 use Rattle.op.specs.Opcodes.{known, Jump, JumpIfTrue, JumpIfFalse, JumpIfTrueOrPop, JumpIfFalseOrPop, ForIter}
 use Rattle.op.specs.Effects.{rules, ruleAt, ruleNumber, effectBy, takenOf, Small}
 use Rattle.op.specs.declared.Effect.{Effect}
@@ -44,7 +44,7 @@ rule-at assert-failed = refl
 rule-at match-keys = refl
 
 -- a choice of two small effects is small
-either : (t : Bool) (a b : Effect) → Small a → Small b → Small (pick t a b)
+either : (t : Bool) (a b : Effect) → Small a → Small b → Small (cond t a b)
 either true a b p q = p
 either false a b p q = q
 

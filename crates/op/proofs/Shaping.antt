@@ -1,11 +1,10 @@
 -- A shape by its number.
 -- Assumes nothing.
 use mathlib.Core.Path.{_≡_, refl, sym, ap, _∙_}
-use mathlib.Core.Bool.{Bool, true, false}
+use mathlib.Core.Bool.{Bool, true, false, cond}
 use mathlib.Core.List.{List, [], _∷_}
 use Prim.Native.Nat.{ℕ, _≤_}
 use lib.ListN.{getD, List·getD-eq-default}
-use Rattle.op.specs.Choice.{pick}
 use Rattle.op.specs.Opcodes.{known, rowOf}
 use Rattle.op.specs.Shapes.{shapeNumber, shapeIn, shapeNo, shapeOf}
 use Rattle.op.specs.declared.Refusal.the-variants.{UnknownOpcode}
@@ -43,7 +42,7 @@ pub by-number : (k : ℕ) → shapeAt (shapeNo k) ≡ shapeOf k
 unfolding shapeNo shapeOf
 by-number k = go (known k)
   where
-    go : (b : Bool) → shapeAt (pick b (shapeNumber (shapeIn (rowOf k))) 12) ≡ pick b (Is (shapeIn (rowOf k))) (Refused UnknownOpcode)
+    go : (b : Bool) → shapeAt (cond b (shapeNumber (shapeIn (rowOf k))) 12) ≡ cond b (Is (shapeIn (rowOf k))) (Refused UnknownOpcode)
     go true = shape-at (shapeIn (rowOf k))
     go false = refl
 

@@ -1,8 +1,8 @@
 -- The depth behind an instruction: R11, R12.
 -- Assumes nothing.
+use mathlib.Core.Bool.{cond}
 use Prim.Native.Nat.{ℕ, _+_, _-_}
 use lib.Dec.{leb}
-use Rattle.op.specs.Choice.{pick}
 use Rattle.op.specs.Effects.{effectOf, takenOf}
 use Rattle.op.specs.declared.After.{After}
 use Rattle.op.specs.declared.After.the-variants.{Depth, Refused}
@@ -19,7 +19,7 @@ deepest = 65535
 -- the depth that an effect leads to from d: `low` below 0, 5 above the greatest
 unfoldable pub landing : Refusal → ℕ → Effect → After
 landing low d (E.By up down) =
-    pick (leb down (d + up)) (pick (leb (d + up - down) deepest) (Depth (d + up - down)) (Refused DepthTooLarge)) (Refused low)
+    cond (leb down (d + up)) (cond (leb (d + up - down) deepest) (Depth (d + up - down)) (Refused DepthTooLarge)) (Refused low)
 landing low d (E.Refused r) = Refused r
 
 -- line 4: below 0 after falling through (R11)

@@ -1,13 +1,13 @@
 -- What an instruction does to the depth of the stack: op.rs, `stack_effect`, `jump_taken_stack_effect`; R7 to R10.
 -- An effect is a number to add, `up`, and a number to take away, `down`; the net effect is `up` - `down`.
 -- Assumes nothing.
-use mathlib.Core.Bool.{Bool, true, false}
+use mathlib.Core.Bool.{Bool, true, false, cond}
 use mathlib.Core.List.{List, [], _∷_}
 use Prim.Native.Nat.{ℕ, _+_, _*_, _/_, _%_, _<_}
 use lib.Dec.{eqb}
 use lib.IntN.{ℤ, subℕ}
 use lib.ListN.{getD}
-use Rattle.op.specs.Choice.{pick, isIn}
+use Rattle.op.specs.Choice.{isIn}
 use Rattle.op.specs.Opcodes.{Rule, minus3, minus2, minus1, same, plus1, plus2, minus-n, one-minus-n, one-minus-2n, n-minus-one, both, minus-both, one-minus-both, extended, format, assert, assert-failed, match-keys}
 use Rattle.op.specs.Opcodes.{Row, op, known, rowOf}
 use Rattle.op.specs.Opcodes.{Jump, JumpIfTrue, JumpIfFalse, JumpIfTrueOrPop, JumpIfFalseOrPop, ForIter, Raise, Reraise, ReturnValue, RaiseUnboundLocal, AssertFailed}
@@ -75,13 +75,13 @@ effectBy extended m n = By 0 (1 + n % 2)
 effectBy format m n = By 0 (n / 4 % 2)
 effectBy assert m n = By 0 (1 + n / 16 % 2)
 effectBy assert-failed m n = By 0 (2 + n / 16 % 2)
-effectBy match-keys m n = pick (eqb n 1) (By 0 1) (By 2 0)
+effectBy match-keys m n = cond (eqb n 1) (By 0 1) (By 2 0)
 
 -- 1, then 2: the effect of an opcode with an operand (R7)
 unfoldable pub effectOf : ℕ → Operand → Effect
 effectOf k o =
-    pick (known k)
-    (pick (eqb (shapeNumber (shapeIn (rowOf k))) (shapeNumber (operandShape o)))
+    cond (known k)
+    (cond (eqb (shapeNumber (shapeIn (rowOf k))) (shapeNumber (operandShape o)))
     (effectBy (ruleIn (rowOf k)) (formerOf o) (lastOf o))
     (Refused WrongShape))
     (Refused UnknownOpcode)
@@ -89,9 +89,9 @@ effectOf k o =
 -- "A jump has two effects, falling through and taken": the taken effects, refusing 1, then 3 (R9)
 unfoldable pub takenOf : ℕ → Effect
 takenOf k =
-    pick (known k)
-    (pick (isIn k (Jump ∷ JumpIfTrueOrPop ∷ JumpIfFalseOrPop ∷ [])) (By 0 0)
-    (pick (isIn k (JumpIfTrue ∷ JumpIfFalse ∷ ForIter ∷ [])) (By 0 1)
+    cond (known k)
+    (cond (isIn k (Jump ∷ JumpIfTrueOrPop ∷ JumpIfFalseOrPop ∷ [])) (By 0 0)
+    (cond (isIn k (JumpIfTrue ∷ JumpIfFalse ∷ ForIter ∷ [])) (By 0 1)
     (Refused NotAJump)))
     (Refused UnknownOpcode)
 
@@ -111,7 +111,7 @@ deadMaker k = isIn k (ReturnValue ∷ Raise ∷ Reraise ∷ RaiseUnboundLocal �
 
 -- what is behind an opcode, or 1
 abbrev pub deadnessOf : ℕ → Deadness
-deadnessOf k = pick (known k) (pick (deadMaker k) D.Dead D.Live) (D.Refused UnknownOpcode)
+deadnessOf k = cond (known k) (cond (deadMaker k) D.Dead D.Live) (D.Refused UnknownOpcode)
 
 -- the number by which the code knows a rule; no rule of docs/RULES.md
 abbrev pub ruleNumber : Rule → ℕ

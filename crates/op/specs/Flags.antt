@@ -1,10 +1,10 @@
 -- The flags of Assert and AssertFailed: R6; op.rs, `assert_flags`, `decode_assert_flags`; CmpOperator.
 -- Assumes nothing.
+use mathlib.Core.Bool.{cond}
 use mathlib.Core.List.{List, [], _∷_}
 use Prim.Native.Nat.{ℕ, _+_, _-_}
 use lib.Dec.{eqb, leb}
 use lib.ListN.{getD}
-use Rattle.op.specs.Choice.{pick}
 use Rattle.op.specs.declared.CmpOperator.{CmpOperator}
 use Rattle.op.specs.declared.CmpOperator.the-variants.{Eq, NotEq, Lt, LtE, Gt, GtE, Is, IsNot, In, NotIn}
 use Rattle.op.specs.declared.Compared.{Compared}
@@ -39,4 +39,4 @@ flagsOf (C.With operator) = 0x10 + comparisonNumber operator
 -- the same, read: "every other byte is invalid" (R6)
 unfoldable pub decodedFlags : ℕ → AssertFlags
 decodedFlags b =
-    pick (eqb b 0) (F.Valid C.Nothing) (pick (leb 0x10 b) (getD comparisons (b - 0x10) F.Invalid) F.Invalid)
+    cond (eqb b 0) (F.Valid C.Nothing) (cond (leb 0x10 b) (getD comparisons (b - 0x10) F.Invalid) F.Invalid)

@@ -1,12 +1,12 @@
 -- The names of the opcodes as bytes: op.rs, `enum Opcode`.
 -- Assumes nothing.
+use mathlib.Core.Bool.{cond}
 use mathlib.Core.List.{List, [], _∷_, _++_}
 use Prim.Native.Char.{Char, code}
 use Prim.Native.Nat.{ℕ, suc, _+_, _-_}
 use Prim.Native.String.{String, [] as none, _∷_ as _then_}
 use lib.Dec.{leb}
 use lib.ListN.{length, getD, take, drop}
-use Rattle.op.specs.Choice.{pick}
 use Rattle.op.specs.Opcodes.{Row, op, table, rowOf}
 
 -- the bytes of a text: each character's number
@@ -42,7 +42,7 @@ nameStarts = begins 0 table
 
 -- the part of a text from a to e; nothing where there is no such part
 abbrev pub between : List ℕ → ℕ → ℕ → List ℕ
-between text a e = pick (leb e (length text)) (take (e - a) (drop a text)) []
+between text a e = cond (leb e (length text)) (take (e - a) (drop a text)) []
 
 -- the name of opcode k in a text, by where the names begin in it (R5)
 unfoldable pub nameBy : List ℕ → List ℕ → ℕ → List ℕ

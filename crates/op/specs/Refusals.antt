@@ -33,7 +33,7 @@ numberOf R.ShortDepths = 21
 numberOf (R.CutShort offset) = 22
 numberOf R.NoDepths = 23
 
--- the tables by number
+-- the tables by number (R62)
 abbrev pub tableNumber : Table → ℕ
 tableNumber T.Code = 1
 tableNumber T.Locations = 2
@@ -48,7 +48,7 @@ tableNumber T.Text = 8
 abbrev pub half : ℕ
 half = 4294967296
 
--- what a refusal names: 18 its table; 1 read from code, and 22, the offset, modulo 2^32; any other nothing
+-- what a refusal names: 18 its table; 1 read from code, and 22, the offset, modulo 2^32; any other nothing (R62)
 abbrev pub namedOf : Refusal → ℕ
 namedOf R.UnknownOpcode = 0
 namedOf (R.UnknownOpcodeAt offset) = offset % half
@@ -75,6 +75,6 @@ namedOf R.ShortDepths = 0
 namedOf (R.CutShort offset) = offset % half
 namedOf R.NoDepths = 0
 
--- a refusal as one answer: its number, and below it what it names
+-- a refusal as one answer: its number, and below it what it names (R62)
 abbrev pub answerOf : Refusal → ℕ
 answerOf refusal = numberOf refusal * half + namedOf refusal

@@ -1,8 +1,8 @@
 -- The shapes of operands: op.rs, `OperandShape`, `operand_shape`, `Operand::shape`; R3, R4.
 -- Assumes nothing.
 use mathlib.Core.Path.{_≡_}
+use mathlib.Core.Bool.{cond}
 use Prim.Native.Nat.{ℕ, _+_, _*_}
-use Rattle.op.specs.Choice.{pick}
 use Rattle.op.specs.Opcodes.{Row, op, known, rowOf}
 use Rattle.op.specs.declared.Operand.{Operand}
 use Rattle.op.specs.declared.Operand.the-variants as O
@@ -33,11 +33,11 @@ shapeIn (op name shape rule) = shape
 
 -- the number of an opcode's shape; 12 where there is no such opcode
 unfoldable pub shapeNo : ℕ → ℕ
-shapeNo k = pick (known k) (shapeNumber (shapeIn (rowOf k))) 12
+shapeNo k = cond (known k) (shapeNumber (shapeIn (rowOf k))) 12
 
 -- op.rs, `operand_shape`: an opcode's shape, or 1 (R2)
 unfoldable pub shapeOf : ℕ → Shaped
-shapeOf k = pick (known k) (Is (shapeIn (rowOf k))) (Refused UnknownOpcode)
+shapeOf k = cond (known k) (Is (shapeIn (rowOf k))) (Refused UnknownOpcode)
 
 -- op.rs, `Operand::shape`: the shape of an operand (R3)
 abbrev pub operandShape : Operand → Shape

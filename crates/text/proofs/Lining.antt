@@ -1,7 +1,7 @@
 -- A line in its pieces is the line of the listing, and what is said of it.
 -- Assumes nothing.
 use mathlib.Core.Path.{_≡_, refl, sym, ap, _∙_}
-use mathlib.Core.Bool.{Bool, true, false}
+use mathlib.Core.Bool.{Bool, true, false, cond}
 use mathlib.Core.List.{List, [], _∷_, _++_, append-assoc}
 use Prim.Native.Nat.{ℕ, _-_, _≤_, _<_}
 use native.Mathlib.Omega.{arith}
@@ -9,7 +9,6 @@ use lib.Dec.{leb}
 use lib.ListN.{length, drop}
 use borrow.Author.Tests.{le-leb, lt-leb}
 use Rattle.op.specs.Opcodes.{lastOpcode}
-use Rattle.op.specs.Choice.{pick}
 use Rattle.op.specs.Names.{nameOf, nameBy}
 use Rattle.op.specs.Refusals.{numberOf}
 use Rattle.op.specs.declared.Operand.{Operand}
@@ -72,7 +71,7 @@ module _ (names starts code : List ℕ) (at : ℕ) (old : List ℕ) (to : ℕ) (
         cells = rw (h, t) (q .cells);
       }
 
-  same-either : (b : Bool) → old ≡ pick b old old
+  same-either : (b : Bool) → old ≡ cond b old old
   same-either true = refl
   same-either false = refl
 

@@ -1,14 +1,13 @@
 -- Each name is its opcode's alone, and has no character below `0`, so no separator: one computed test over the table for each.
 -- Assumes nothing.
 use mathlib.Core.Path.{_≡_, refl, ap}
-use mathlib.Core.Bool.{Bool, true, false}
+use mathlib.Core.Bool.{Bool, true, false, cond}
 use mathlib.Core.List.{List, [], _∷_}
 use Prim.Native.Nat.{ℕ, zero, suc, _<_}
 use native.Mathlib.Nat.{not-suc-le-zero, le-of-suc-le-suc}
 use native.Mathlib.Omega.{arith}
 use lib.Dec.{T, leb, eqb, eqb→eq, eqb-refl}
 use lib.ListN.{length, getD}
-use Rattle.op.specs.Choice.{pick}
 use Rattle.op.specs.Names.{nameIn, nameOf}
 use Rattle.op.specs.Opcodes.{Row, op, same as unmoved, table, rowOf}
 use Rattle.op.specs.declared.Shape.the-variants.{None}
@@ -68,7 +67,7 @@ place-at (s ∷ l) t (suc k) h =
     go (same (nameIn s) (nameIn (getD l k default))) refl ih p
   where
     go : (b : Bool) → same (nameIn s) (nameIn (getD l k default)) ≡ b → place l (nameIn (getD l k default)) ≡ k → place l (nameIn s) ≡ length l
-        → pick b 0 (suc (place l (nameIn (getD l k default)))) ≡ suc k
+        → cond b 0 (suc (place l (nameIn (getD l k default)))) ≡ suc k
     go true e ih p =
         let q = ap (place l) (yes-same (nameIn s) (nameIn (getD l k default)) e) in
         let z : ⊥ = omega (arith, le-of-suc-le-suc h) in absurd z
@@ -78,8 +77,8 @@ place-is : (l : List Row) (t : List ℕ) → place l t < length l → nameIn (ge
 place-is [] t h = absurd (not-suc-le-zero h)
 place-is (s ∷ l) t h = go (same (nameIn s) t) refl h (λ g. place-is l t g)
   where
-    go : (b : Bool) → same (nameIn s) t ≡ b → pick b 0 (suc (place l t)) < suc (length l) → (place l t < length l → nameIn (getD l (place l t) default) ≡ t)
-        → nameIn (getD (s ∷ l) (pick b 0 (suc (place l t))) default) ≡ t
+    go : (b : Bool) → same (nameIn s) t ≡ b → cond b 0 (suc (place l t)) < suc (length l) → (place l t < length l → nameIn (getD l (place l t) default) ≡ t)
+        → nameIn (getD (s ∷ l) (cond b 0 (suc (place l t))) default) ≡ t
     go true e h f = yes-same (nameIn s) t e
     go false e h f = f (le-of-suc-le-suc h)
 

@@ -1,7 +1,7 @@
 -- Laws of texts written into a slice, one behind the other.
 -- Assumes nothing.
 use mathlib.Core.Path.{_≡_, refl, sym, ap, _∙_}
-use mathlib.Core.Bool.{Bool, true, false}
+use mathlib.Core.Bool.{Bool, true, false, cond}
 use mathlib.Core.List.{List, [], _∷_, _++_}
 use Prim.Native.Nat.{ℕ, suc, _+_, _-_, _≤_, _<_}
 use native.Mathlib.Nat.{add-zero}
@@ -11,7 +11,6 @@ use lib.Dec.{leb}
 use lib.ListN.{length, set, take, drop, getD, length-append}
 use lib.Seq.{sets, sets-eq, take-suc, take-at, length-take-le, length-sets}
 use borrow.Author.Tests.{le-leb, lt-leb}
-use Rattle.op.specs.Choice.{pick}
 use Rattle.op.specs.declared.Refusal.the-variants.{Full}
 use Rattle.op.specs.declared.Table.the-variants.{Text}
 use Rattle.text.specs.Put.{Put, Places, placedOf, written}
@@ -108,6 +107,6 @@ pub placed-place : (old : List ℕ) (at : ℕ) (text : List ℕ) (e : ℕ) → B
 unfolding placedOf
 placed-place old at text e q = by (leb (length text) (length old - at)) q
   where
-    by : (b : Bool) → Behind e ≡ pick b (Behind (at + length text)) (Refused (Full Text)) → e ≡ at + length text
+    by : (b : Bool) → Behind e ≡ cond b (Behind (at + length text)) (Refused (Full Text)) → e ≡ at + length text
     by true q = cc
     by false q = cc

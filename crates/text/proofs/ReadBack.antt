@@ -1,7 +1,7 @@
 -- Decimals read back: reading is the inverse of writing, both ways.
 -- Assumes nothing.
 use mathlib.Core.Path.{_≡_, refl, sym, ap, _∙_}
-use mathlib.Core.Bool.{Bool, true, false, not}
+use mathlib.Core.Bool.{Bool, true, false, cond, not}
 use mathlib.Core.List.{List, [], _∷_, _++_, append-nil}
 use Prim.Native.Nat.{ℕ, zero, suc, _+_, _-_, _*_, _/_, _%_, _≤_, _<_}
 use native.Mathlib.Nat.{le-refl}
@@ -10,7 +10,6 @@ use native.Mathlib.Decide.{decLt}
 use lib.Dec.{T, leb, eqb, leb→le, le→leb}
 use lib.Seq.{append-snoc}
 use borrow.Author.Tests.{ne-eqb}
-use Rattle.op.specs.Choice.{pick}
 use Rattle.text.specs.Decimal.{decimal}
 use Rattle.text.specs.Number.{and, all, digit, natural, onto, value, lead, after, ends}
 use Rattle.text.proofs.Decimals.{decimal-small, decimal-more}
@@ -140,12 +139,12 @@ span : (a r : List ℕ) → T (all digit a) → T (ends r) → (lead (a ++ r) �
 span [] [] d e = (refl, refl)
 span [] (c ∷ t) d e = off (digit c) e
   where
-    off : (b : Bool) → T (not b) → (pick b (c ∷ lead t) [] ≡ []) × (pick b (after t) (c ∷ t) ≡ c ∷ t)
+    off : (b : Bool) → T (not b) → (cond b (c ∷ lead t) [] ≡ []) × (cond b (after t) (c ∷ t) ≡ c ∷ t)
     off true e = absurd e
     off false e = (refl, refl)
 span (x ∷ a) r d e = on (digit x) (and-left (digit x) (all digit a) d) (span a r (and-right (digit x) (all digit a) d) e)
   where
-    on : (b : Bool) → T b → (lead (a ++ r) ≡ a) × (after (a ++ r) ≡ r) → (pick b (x ∷ lead (a ++ r)) [] ≡ x ∷ a) × (pick b (after (a ++ r)) (x ∷ (a ++ r)) ≡ r)
+    on : (b : Bool) → T b → (lead (a ++ r) ≡ a) × (after (a ++ r) ≡ r) → (cond b (x ∷ lead (a ++ r)) [] ≡ x ∷ a) × (cond b (after (a ++ r)) (x ∷ (a ++ r)) ≡ r)
     on true t i = (ap (λ (l : List ℕ). x ∷ l) (i .0), i .1)
     on false t i = absurd t
 

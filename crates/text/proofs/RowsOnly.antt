@@ -1,14 +1,13 @@
 -- A text that is read as a row is that row's text.
 -- Assumes nothing.
 use mathlib.Core.Path.{_≡_, refl, sym, ap, _∙_, subst}
-use mathlib.Core.Bool.{Bool, true, false, not}
+use mathlib.Core.Bool.{Bool, true, false, cond, not}
 use mathlib.Core.List.{List, [], _∷_}
 use mathlib.Core.Option.{Option, none, some}
 use Prim.Native.Nat.{ℕ, suc, _-_, _<_}
 use native.Mathlib.Omega.{arith}
 use lib.Dec.{T, eqb}
 use lib.ListN.{length}
-use Rattle.op.specs.Choice.{pick}
 use Rattle.op.specs.Opcodes.{table, known}
 use Rattle.op.proofs.Listed.{known-row}
 use lib.IntN.{ℤ, pos, negsuc}
@@ -56,7 +55,7 @@ pub whole-text : (t : List ℕ) (z : ℤ) → readWhole t ≡ some z → t ≡ w
 whole-text [] z e = absurd (nothing e)
 whole-text (c ∷ t) z e = go (eqb c 45) refl e
   where
-    go : (b : Bool) → eqb c 45 ≡ b → pick b (negative t) (positive (c ∷ t)) ≡ some z → c ∷ t ≡ wholeText z
+    go : (b : Bool) → eqb c 45 ≡ b → cond b (negative t) (positive (c ∷ t)) ≡ some z → c ∷ t ≡ wholeText z
     go true q e = ap (λ (x : ℕ). x ∷ t) (eqb-true c 45 q) ∙ negative-text t z e
     go false q e = positive-text (c ∷ t) z e
 
@@ -80,7 +79,7 @@ joined t (z ∷ zs) e = sym (join-split 44 t) ∙ ap (join 44) e
 operands-text : (t : List ℕ) (zs : List ℤ) → readOperands t ≡ some zs → t ≡ operandColumn zs
 operands-text t zs e = go (same t dash) refl e
   where
-    go : (b : Bool) → same t dash ≡ b → pick b (some []) (readAll (split 44 t)) ≡ some zs → t ≡ operandColumn zs
+    go : (b : Bool) → same t dash ≡ b → cond b (some []) (readAll (split 44 t)) ≡ some zs → t ≡ operandColumn zs
     go true q e = let h : [] ≡ zs = cc in yes-same t dash q ∙ ap operandColumn h
     go false q e = joined t zs (all-text (split 44 t) zs e)
 
@@ -91,7 +90,7 @@ target-text t z e = go (same t dash) refl e
     inner none p e = absurd (nothing e)
     inner (some x) p e = let h : some x ≡ z = cc in whole-text t x p ∙ ap targetColumn h
 
-    go : (b : Bool) → same t dash ≡ b → pick b (some none) (present (readWhole t)) ≡ some z → t ≡ targetColumn z
+    go : (b : Bool) → same t dash ≡ b → cond b (some none) (present (readWhole t)) ≡ some z → t ≡ targetColumn z
     go true q e = let h : none ≡ z = cc in yes-same t dash q ∙ ap targetColumn h
     go false q e = inner (readWhole t) refl e
 

@@ -1,7 +1,7 @@
 -- What each answer of `lines::line_at` says of the listing, and that it is never 18 where 2,048 cells are left.
 -- Assumes nothing.
 use mathlib.Core.Path.{_≡_, refl, sym, ap, _∙_, subst}
-use mathlib.Core.Bool.{Bool, true, false}
+use mathlib.Core.Bool.{Bool, true, false, cond}
 use mathlib.Core.List.{List, [], _++_}
 use Prim.Native.Nat.{ℕ, _+_, _-_, _≤_, _<_}
 use native.Mathlib.Decide.{decLt}
@@ -10,7 +10,6 @@ use lib.Dec.{leb, leb→le}
 use lib.ListN.{length, getD, drop, length-drop}
 use lib.Seq.{sets}
 use borrow.Author.Tests.{le-leb, leb-true}
-use Rattle.op.specs.Choice.{pick}
 use Rattle.op.specs.Names.{nameOf, nameText, nameStarts, nameBy}
 use Rattle.op.specs.Opcodes.{lastOpcode, table, rowOf}
 use Rattle.op.specs.Refusals.{numberOf}
@@ -70,8 +69,8 @@ module _ (code : List ℕ) (at : ℕ) (old : List ℕ) (to : ℕ) where
 
   by-tests : (b : Bool) → leb (length code) most ≡ b → (t : Bool) → fits old to here ≡ t
       → Says code at old to
-      (pick b (linedBy at (pick t (Behind (to + length here)) (Refused (Full Text))) (decode lastOpcode at (drop at code))) (L.Refused TooLarge))
-      (pick b (pick t (sets old to here) old) old)
+      (cond b (linedBy at (cond t (Behind (to + length here)) (Refused (Full Text))) (decode lastOpcode at (drop at code))) (L.Refused TooLarge))
+      (cond b (cond t (sets old to here) old) old)
   by-tests true e true q = by-step (leb-true (length code) most e) (leb-true (length here) (length old - to) q) (decode lastOpcode at (drop at code)) refl
   by-tests true e false q = full-step (leb-true (length code) most e) (decode lastOpcode at (drop at code)) refl
   by-tests false e t q = refl

@@ -1,15 +1,14 @@
 -- The lines from offset 0 on, one behind the other behind the first, are the listing.
 -- Assumes nothing.
 use mathlib.Core.Path.{_≡_, refl, sym, ap, _∙_}
-use mathlib.Core.Bool.{Bool, true, false}
-use mathlib.Core.List.{List, [], _∷_, _++_, append-nil}
-use Prim.Native.Nat.{ℕ, zero, suc, _+_, _-_, _≤_, _<_}
+use mathlib.Core.Bool.{Bool, true, false, cond}
+use mathlib.Core.List.{List, [], _∷_, _++_, append-nil, append-assoc}
+use mathlib.Core.Option.{Option, some, none}
+use Prim.Native.Nat.{ℕ, _+_, _≤_, _<_}
 use native.Mathlib.Omega.{arith}
 use lib.Dec.{leb}
-use lib.ListN.{length, drop, length-drop}
-use lib.Seq.{drop-drop}
+use lib.ListN.{length, drop}
 use borrow.Author.Tests.{le-leb, lt-leb}
-use Rattle.op.specs.Choice.{pick}
 use Rattle.op.specs.Names.{nameOf, nameText, nameStarts, nameBy}
 use Rattle.op.specs.Opcodes.{table, lastOpcode}
 use Rattle.op.specs.Shapes.{shapeOf, operandShape}
@@ -22,54 +21,19 @@ use Rattle.op.proofs.Effected.{shape-is}
 use Rattle.op.proofs.Listed.{known-row}
 use Rattle.op.proofs.Named.{name-by}
 use Rattle.code.specs.Decode.{decode}
+use Rattle.code.specs.Reading.{Spot, Read, before, stopsAt, spotAt, instructionsIn}
 use Rattle.code.specs.declared.Step.{Step}
 use Rattle.code.specs.declared.Step.the-variants as S
-use Rattle.code.proofs.Decoding.{decoded, decoded-ends}
+use Rattle.code.proofs.Decoding.{decoded}
+use Rattle.code.proofs.Instructions.{readFrom, reads-on, reads-end, reads-fault}
 use Rattle.text.specs.Fields.{lineText}
-use Rattle.text.specs.Listing.{most, header, faultLine, firstLine, lineOf, behind, linesOf, listingOf, restOf}
+use Rattle.text.specs.Listing.{most, header, faultLine, firstLine, spotLine, spotLines, stopLine, lineBy, lineOf, linesOf, listingOf, restOf}
 use Rattle.text.proofs.Lining.{line-of, fault-of, no-line}
-
--- one line, and what is behind it
-one-more : (n at : ℕ) (u : List ℕ) (s : Step) → decode lastOpcode at u ≡ s
-    → linesOf (suc n) at u ≡ lineOf nameOf at u ++ behind (linesOf n) at u s
-unfolding linesOf
-one-more n at u s e = ap (λ (x : Step). lineOf nameOf at u ++ behind (linesOf n) at u x) e
-
--- nothing at the end
-lines-end : (n at : ℕ) (u : List ℕ) → decode lastOpcode at u ≡ S.End → linesOf n at u ≡ []
-unfolding linesOf
-lines-end zero at u e = refl
-lines-end (suc n) at u e = one-more n at u S.End e ∙ append-nil (lineOf nameOf at u) ∙ no-line nameOf at u e
-
-end-here : (at : ℕ) (u : List ℕ) → length u ≤ 0 → decode lastOpcode at u ≡ S.End
-unfolding decode
-end-here at [] h = refl
-end-here at (k ∷ u) h = let z : ⊥ = omega arith in absurd z
-
--- no more lines are asked for than there are bytes
-fuel-step : (n m at : ℕ) (u : List ℕ) → length u ≤ suc n → length u ≤ suc m
-    → ((at′ : ℕ) (v : List ℕ) → length v ≤ n → length v ≤ m → linesOf n at′ v ≡ linesOf m at′ v)
-    → (s : Step) → decode lastOpcode at u ≡ s → linesOf (suc n) at u ≡ linesOf (suc m) at u
-fuel-step n m at u h g f (S.Instr k o z) e =
-    let d = decoded lastOpcode at u k o z e in
-    one-more n at u (S.Instr k o z) e
-    ∙ ap (λ (l : List ℕ). lineOf nameOf at u ++ l)
-    (f (at + z) (drop z u) (omega (arith, d .some, length-drop z u)) (omega (arith, d .some, length-drop z u)))
-    ∙ sym (one-more m at u (S.Instr k o z) e)
-fuel-step n m at u h g f S.End e = lines-end (suc n) at u e ∙ sym (lines-end (suc m) at u e)
-fuel-step n m at u h g f (S.Refused r) e = one-more n at u (S.Refused r) e ∙ sym (one-more m at u (S.Refused r) e)
-
-fuel : (n m at : ℕ) (u : List ℕ) → length u ≤ n → length u ≤ m → linesOf n at u ≡ linesOf m at u
-fuel zero m at u h g = lines-end zero at u (end-here at u h) ∙ sym (lines-end m at u (end-here at u h))
-fuel (suc n) zero at u h g = lines-end (suc n) at u (end-here at u g) ∙ sym (lines-end zero at u (end-here at u g))
-fuel (suc n) (suc m) at u h g = fuel-step n m at u h g (λ at′ v p q. fuel n m at′ v p q) (decode lastOpcode at u) refl
-
-faultless : (at : ℕ) (u : List ℕ) (r : Refusal) → decode lastOpcode at u ≡ S.Refused r → length u ≤ 0 → ⊥
-faultless at u r e h = let x = sym (end-here at u h) ∙ e in let y : _≡_ {A = ℕ} 0 1 = cc in omega arith
 
 -- where a fault is, there is a byte
 pub faulted : (at : ℕ) (u : List ℕ) (r : Refusal) → decode lastOpcode at u ≡ S.Refused r → 0 < length u
-faulted at [] r e = absurd (faultless at [] r e (omega arith))
+unfolding decode
+faulted at [] r e = let z : _≡_ {A = ℕ} 0 1 = cc in absurd (omega arith)
 faulted at (k ∷ u) r e = omega arith
 
 -- the listing is its first line and the lines from 0 on
@@ -77,12 +41,28 @@ pub listing-begins : (code : List ℕ) → listingOf code ≡ firstLine (length 
 unfolding listingOf firstLine restOf
 listing-begins code = by (leb (length code) most)
   where
-    by : (b : Bool) → pick b (header ++ linesOf (length code) 0 code) (faultLine 0 TooLarge)
-        ≡ pick b header (faultLine 0 TooLarge) ++ pick b (linesOf (length code - 0) 0 (drop 0 code)) []
-    by true = let e : length code ≡ length code - 0 = omega arith in ap (λ (n : ℕ). header ++ linesOf n 0 code) e
+    lines : List ℕ
+    lines = linesOf (instructionsIn lastOpcode code)
+
+    by : (b : Bool) → cond b (header ++ lines) (faultLine 0 TooLarge) ≡ cond b header (faultLine 0 TooLarge) ++ cond b lines []
+    by true = refl
     by false = sym (append-nil (faultLine 0 TooLarge))
 
-rest-is : (code : List ℕ) (at : ℕ) → length code ≤ most → restOf code at ≡ linesOf (length code - at) at (drop at code)
+-- the lines of what is read from a step on
+
+line-before : (spot : Spot) (more : Read) → linesOf (before spot more) ≡ spotLine nameOf spot ++ linesOf more
+unfolding linesOf
+line-before spot more = append-assoc (spotLine nameOf spot) (spotLines (more .spots)) (stopLine (more .stop) (more .fault))
+
+lines-stop : (at : ℕ) (fault : Option Refusal) → linesOf (stopsAt at fault) ≡ stopLine at fault
+unfolding linesOf
+lines-stop at fault = refl
+
+line-is : (at : ℕ) (u : List ℕ) (s : Step) → decode lastOpcode at u ≡ s → lineOf nameOf at u ≡ lineBy nameOf at u s
+unfolding lineOf
+line-is at u s e = ap (lineBy nameOf at u) e
+
+rest-is : (code : List ℕ) (at : ℕ) → length code ≤ most → restOf code at ≡ linesOf (readFrom lastOpcode code at)
 unfolding restOf
 rest-is code at small = rw (le-leb (length code) most small)
 
@@ -91,27 +71,23 @@ module _ (code : List ℕ) (at : ℕ) (small : length code ≤ most) where
   pub rest-line : (k : ℕ) (o : Operand) (z : ℕ) → decode lastOpcode at (drop at code) ≡ S.Instr k o z
       → restOf code at ≡ lineOf nameOf at (drop at code) ++ restOf code (at + z)
   rest-line k o z e =
-      let f = decoded-ends lastOpcode at code k o z e in
-      let s : suc (length code - at - 1) ≡ length code - at = omega (arith, f) in
-      let a : length (drop z (drop at code)) ≤ length code - at - 1 = omega (arith, f, length-drop z (drop at code), length-drop at code) in
-      let b : length (drop z (drop at code)) ≤ length code - (at + z) = omega (arith, f, length-drop z (drop at code), length-drop at code) in
-      let later = fuel (length code - at - 1) (length code - (at + z)) (at + z) (drop z (drop at code)) a b
-      ∙ ap (λ (u : List ℕ). linesOf (length code - (at + z)) (at + z) u) (drop-drop z at code) ∙ sym (rest-is code (at + z) small) in
-      rest-is code at small ∙ ap (λ (m : ℕ). linesOf m at (drop at code)) (sym s) ∙ one-more (length code - at - 1) at (drop at code) (S.Instr k o z) e
-      ∙ ap (λ (l : List ℕ). lineOf nameOf at (drop at code) ++ l) later
+      let u = drop at code in
+      let more = readFrom lastOpcode code (at + z) in
+      let here = line-is at u (S.Instr k o z) e in
+      let later = rest-is code (at + z) small in
+      rest-is code at small ∙ ap linesOf (reads-on lastOpcode code at k o z e) ∙ line-before (spotAt lastOpcode at u k o z) more
+      ∙ sym (ap (λ (l : List ℕ). l ++ restOf code (at + z)) here ∙ ap (λ (l : List ℕ). lineBy nameOf at u (S.Instr k o z) ++ l) later)
 
   -- a fault's line is the last
   pub rest-fault : (r : Refusal) → decode lastOpcode at (drop at code) ≡ S.Refused r
       → restOf code at ≡ lineOf nameOf at (drop at code)
-  rest-fault r e = rest-is code at small ∙ by (length code - at) refl
-    where
-      by : (n : ℕ) → length code - at ≡ n → linesOf (length code - at) at (drop at code) ≡ lineOf nameOf at (drop at code)
-      by zero q = let z : ⊥ = faultless at (drop at code) r e (omega (arith, length-drop at code)) in absurd z
-      by (suc n) q = ap (λ (m : ℕ). linesOf m at (drop at code)) q ∙ one-more n at (drop at code) (S.Refused r) e ∙ append-nil (lineOf nameOf at (drop at code))
+  rest-fault r e =
+      rest-is code at small ∙ ap linesOf (reads-fault lastOpcode code at r e) ∙ lines-stop at (some r)
+      ∙ sym (line-is at (drop at code) (S.Refused r) e)
 
   -- at the end there is none
   pub rest-end : decode lastOpcode at (drop at code) ≡ S.End → restOf code at ≡ []
-  rest-end e = rest-is code at small ∙ lines-end (length code - at) at (drop at code) e
+  rest-end e = rest-is code at small ∙ ap linesOf (reads-end lastOpcode code at e) ∙ lines-stop at none
 
 -- and in code that is too long
 pub rest-large : (code : List ℕ) (at : ℕ) → most < length code → restOf code at ≡ []

@@ -1,12 +1,12 @@
 -- One line of a listing, placed in a lent text: what is answered, every cell, and what that says of the whole listing.
 -- Assumes nothing.
 use mathlib.Core.Path.{_≡_}
+use mathlib.Core.Bool.{cond}
 use mathlib.Core.List.{List, [], _++_}
 use Prim.Native.Nat.{ℕ, _+_, _-_, _≤_, _<_}
 use lib.Dec.{leb}
 use lib.ListN.{length, drop}
 use Rattle.op.specs.Opcodes.{lastOpcode}
-use Rattle.op.specs.Choice.{pick}
 use Rattle.op.specs.Names.{nameBy}
 use Rattle.op.specs.declared.Refusal.the-variants.{TooLarge}
 use Rattle.code.specs.Decode.{decode}
@@ -37,13 +37,13 @@ linedBy at p (S.Refused r) = faultSaid p
 -- the line at an offset of the code, placed in a lent text: 10, End, then 18
 unfoldable pub linedOf : (ℕ → List ℕ) → List ℕ → ℕ → List ℕ → ℕ → Lined
 linedOf name code at old to =
-    pick (leb (length code) most)
+    cond (leb (length code) most)
     (linedBy at (placedOf old to (lineOf name at (drop at code))) (decode lastOpcode at (drop at code)))
     (L.Refused TooLarge)
 
 -- and every cell of that text
 unfoldable pub linedIn : (ℕ → List ℕ) → List ℕ → ℕ → List ℕ → ℕ → List ℕ
-linedIn name code at old to = pick (leb (length code) most) (written old to (lineOf name at (drop at code))) old
+linedIn name code at old to = cond (leb (length code) most) (written old to (lineOf name at (drop at code))) old
 
 -- the answer and every cell of the call that writes one line, with the lent names
 pub record Lists (names starts code : List ℕ) (at : ℕ) (old : List ℕ) (to : ℕ) (answer : Lined) (out : List ℕ) : Type 0 where

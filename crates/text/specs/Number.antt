@@ -1,10 +1,9 @@
 -- Numbers read from text: what a listing that is typed back in says.
 -- Assumes nothing.
-use mathlib.Core.Bool.{Bool, true, false, not}
+use mathlib.Core.Bool.{Bool, true, false, cond, not}
 use mathlib.Core.List.{List, [], _∷_}
 use Prim.Native.Nat.{ℕ, _+_, _-_, _*_}
 use lib.Dec.{leb, eqb}
-use Rattle.op.specs.Choice.{pick}
 
 abbrev pub and : Bool → Bool → Bool
 and true b = b
@@ -34,11 +33,11 @@ value t = onto 0 t
 -- the digits in front of a text, and what stands behind them
 abbrev pub lead : List ℕ → List ℕ
 lead [] = []
-lead (c ∷ t) = pick (digit c) (c ∷ lead t) []
+lead (c ∷ t) = cond (digit c) (c ∷ lead t) []
 
 abbrev pub after : List ℕ → List ℕ
 after [] = []
-after (c ∷ t) = pick (digit c) (after t) (c ∷ t)
+after (c ∷ t) = cond (digit c) (after t) (c ∷ t)
 
 -- a text that does not begin with a digit
 abbrev pub ends : List ℕ → Bool

@@ -1,13 +1,12 @@
 -- A text written into a lent slice: refusal 18 (R27), and what stands elsewhere never changes (R26).
 -- Assumes nothing.
 use mathlib.Core.Path.{_≡_}
-use mathlib.Core.Bool.{Bool}
+use mathlib.Core.Bool.{Bool, cond}
 use mathlib.Core.List.{List}
 use Prim.Native.Nat.{ℕ, _+_, _-_}
 use lib.Dec.{leb}
 use lib.ListN.{length}
 use lib.Seq.{sets}
-use Rattle.op.specs.Choice.{pick}
 use Rattle.op.specs.declared.Refusal.the-variants.{Full}
 use Rattle.op.specs.declared.Table.the-variants.{Text}
 use Rattle.text.specs.declared.Placed.{Placed}
@@ -24,11 +23,11 @@ fits old at text = leb (length text) (length old - at)
 
 -- the place behind a text, or 18
 unfoldable pub placedOf : List ℕ → ℕ → List ℕ → Placed
-placedOf old at text = pick (fits old at text) (Behind (at + length text)) (Refused (Full Text))
+placedOf old at text = cond (fits old at text) (Behind (at + length text)) (Refused (Full Text))
 
 -- every cell: the text in its place, or no change
 unfoldable pub written : List ℕ → ℕ → List ℕ → List ℕ
-written old at text = pick (fits old at text) (sets old at text) old
+written old at text = cond (fits old at text) (sets old at text) old
 
 -- the answer of a public writer, and every cell that it was lent
 pub record Places (old : List ℕ) (at : ℕ) (text : List ℕ) (answer : Placed) (out : List ℕ) : Type 0 where

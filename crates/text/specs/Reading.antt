@@ -1,12 +1,11 @@
 -- A line of a listing read back: the row that a text says, where it is one. The rules only write them (R55).
 -- Assumes nothing.
-use mathlib.Core.Bool.{Bool, true, false, not}
+use mathlib.Core.Bool.{Bool, true, false, cond, not}
 use mathlib.Core.List.{List, [], _∷_}
 use mathlib.Core.Option.{Option, none, some}
 use Prim.Native.Nat.{ℕ, suc, _-_}
 use lib.Dec.{eqb}
 use lib.IntN.{ℤ, pos, negsuc}
-use Rattle.op.specs.Choice.{pick}
 use Rattle.op.specs.Names.{nameIn}
 use Rattle.op.specs.Opcodes.{table, known}
 use Rattle.op.specs.Opcodes.{Row as Opcode}
@@ -24,7 +23,7 @@ same (x ∷ s) (y ∷ t) = and (eqb x y) (same s t)
 -- the place of a text among the names of opcodes, or their number where it is none of them
 abbrev pub place : List Opcode → List ℕ → ℕ
 place [] t = 0
-place (o ∷ os) t = let r = place os t in pick (same (nameIn o) t) 0 (suc r)
+place (o ∷ os) t = let r = place os t in cond (same (nameIn o) t) 0 (suc r)
 
 -- the opcode that a text names; one past the last where it names none
 unfoldable pub opcodeOf : List ℕ → ℕ
@@ -44,7 +43,7 @@ negative t = onlyIf (and (natural t) (not (eqb (value t) 0))) (negsuc (value t -
 
 abbrev pub readWhole : List ℕ → Option ℤ
 readWhole [] = none
-readWhole (c ∷ t) = pick (eqb c 45) (negative t) (positive (c ∷ t))
+readWhole (c ∷ t) = cond (eqb c 45) (negative t) (positive (c ∷ t))
 
 -- operands, each a whole number
 abbrev pub both : Option ℤ → Option (List ℤ) → Option (List ℤ)
@@ -57,7 +56,7 @@ readAll [] = some []
 readAll (t ∷ ts) = both (readWhole t) (readAll ts)
 
 abbrev pub readOperands : List ℕ → Option (List ℤ)
-readOperands t = pick (same t dash) (some []) (readAll (split 44 t))
+readOperands t = cond (same t dash) (some []) (readAll (split 44 t))
 
 -- a target, or `-`
 abbrev pub present : Option ℤ → Option (Option ℤ)
@@ -65,7 +64,7 @@ present none = none
 present (some z) = some (some z)
 
 abbrev pub readTarget : List ℕ → Option (Option ℤ)
-readTarget t = pick (same t dash) (some none) (present (readWhole t))
+readTarget t = cond (same t dash) (some none) (present (readWhole t))
 
 -- a row, where each field is right
 abbrev pub row : Bool → ℕ → Bool → ℕ → Option (List ℤ) → Option (Option ℤ) → Option Row

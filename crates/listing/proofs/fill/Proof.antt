@@ -5,7 +5,7 @@
 use mathlib.Core.Path.{_≡_, refl, sym, _∙_, ap, subst}
 use Prim.Native.Nat.{ℕ, suc, _-_, _<_, _≤_, _^_}
 use native.Mathlib.Omega.{arith}
-use mathlib.Core.Bool.{Bool, true, false, not}
+use mathlib.Core.Bool.{Bool, true, false, cond, not}
 use mathlib.Core.List.{List, [], _∷_}
 use mathlib.Core.WellFounded.{InvImage·wf}
 use lib.WfN.{Nat·lt-wfRel}
@@ -45,7 +45,6 @@ use denote.Triple.Spec.{Meets, tripleOf}
 use denote.Triple.Table.{entered, cited}
 use denote.Triple.Walked.{says, needs, Stays, stay-none-slice, stay-slice, stay-none, walkOf, goes-none-slice, goes-slice, goes-none, Walks, ends-at, walked, walk-meets}
 use denote.Exit.{yes}
-use Rattle.op.specs.Choice.{pick}
 use Rattle.reader.specs.Reader.{afterAt}
 use Rattle.reader.specs.declared.InstructionReader.{InstructionReader}
 use Rattle.walk.proofs.Again.{LentAgain, lends-again, comes-back}
@@ -114,16 +113,16 @@ falsity : (b : Bool) → Holds (not b) → b ≡ false
 falsity true h = absurd h
 falsity false h = refl
 
-module _ {x : RefT (List ℕ)} {at : ℕ} {ys : List ℕ} {to : ℕ} (s : At x at ys to) (c : Bool) (e : c ≡ pick (s .p .more) (leb 2048 (length ys - s .p .to)) false) where
-  test : pick (s .p .more) (leb 2048 (length (s .out) - s .p .to)) false ≡ c
-  test = ap (λ (n : ℕ). pick (s .p .more) (leb 2048 (n - s .p .to)) false) (reached-length (s .reached)) ∙ sym e
+module _ {x : RefT (List ℕ)} {at : ℕ} {ys : List ℕ} {to : ℕ} (s : At x at ys to) (c : Bool) (e : c ≡ cond (s .p .more) (leb 2048 (length ys - s .p .to)) false) where
+  test : cond (s .p .more) (leb 2048 (length (s .out) - s .p .to)) false ≡ c
+  test = ap (λ (n : ℕ). cond (s .p .more) (leb 2048 (n - s .p .to)) false) (reached-length (s .reached)) ∙ sym e
 
   -- what `ready` says where the loop is left
   ended : Holds (not c) → 2048 ≤ length ys - to → turns (now x) (s .p) < suc (length (now x) - at)
   ended h room = reached-end (now x) at ys to (s .p) (s .out) (s .reached) (test ∙ falsity c h) room
 
   module _ (h : Holds c) where
-    goes : pick (s .p .more) (leb 2048 (length (s .out) - s .p .to)) false ≡ true
+    goes : cond (s .p .more) (leb 2048 (length (s .out) - s .p .to)) false ≡ true
     goes = test ∙ truth c h
 
     room : 2048 ≤ length (s .out) - s .p .to
@@ -257,7 +256,7 @@ module _ {M : Type 1} (𝓤 : URA M) (H : Heap 𝓤) (A : Atoms 𝓤) (W : Given
         -- `ready` has no lifetime, so its tokens are none
         nothing ! $ owned ! usize (Is usize) (uint-makes 𝓤 H A W w64) (s .p .to) _ (refl, wp .1 .1 .0 .fits) $ fjoin ! $ owned ! usize (Is usize) (uint-makes 𝓤 H A W w64) n _ (refl, gx .0) $ fjoin ! $
         owned ! bool (Is bool) (bool-makes 𝓤 H A W) (s .p .more) _ refl $ fjoin ! $ use0 W (toks 𝓤 H A ready.ended (ready.clauses 𝓤 H A mem run) (to-ready (s .p))) (id⊢ 𝓤 (emp 𝓤)) $
-        calls-told ! (fmOf 𝓤 H (W .laws) 𝓣) ready.ended (ready.clauses 𝓤 H A mem run) known-ready (to-ready (s .p)) (λ c. c ≡ pick (s .p .more) (leb 2048 (n - s .p .to)) false) (λ r ws. id⊢ 𝓤 _) (id⊢ 𝓤 _)
+        calls-told ! (fmOf 𝓤 H (W .laws) 𝓣) ready.ended (ready.clauses 𝓤 H A mem run) known-ready (to-ready (s .p)) (λ c. c ≡ cond (s .p .more) (leb 2048 (n - s .p .to)) false) (λ r ws. id⊢ 𝓤 _) (id⊢ 𝓤 _)
         vbool bool-tells (and-then ! (load ! (from ! (fld ! refl (stop !))) (look-in ! 24 (sub ! 2 refl (whole !)))) (and-then ! (load ! (from ! (stop !)) (look ! 20 refl))
         (and-then ! (load ! (from ! (fld ! refl (stop !))) (look-in ! 24 (sub ! 1 refl (whole !)))) (no-more !)))) (λ c e is-c.
         land ! (from ! (stop !)) (init ! 23 refl (bool-lawful 𝓤 H A W .typed c _ is-c .0)) $ drop ! $ drop ! $

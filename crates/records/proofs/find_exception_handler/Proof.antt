@@ -6,7 +6,7 @@ use mathlib.Core.Path.{_≡_, refl, sym, _∙_, ap}
 use Prim.Native.Nat.{ℕ, _+_, _*_, _-_, _<_, _≤_, _^_}
 use native.Mathlib.Numerals.{add-one}
 use native.Mathlib.Omega.{arith}
-use mathlib.Core.Bool.{Bool, true, false, not}
+use mathlib.Core.Bool.{Bool, true, false, cond, not}
 use mathlib.Core.List.{List, [], _∷_}
 use mathlib.Core.WellFounded.{InvImage·wf}
 use lib.WfN.{Nat·lt-wfRel}
@@ -47,7 +47,6 @@ use denote.Triple.Spec.{Meets, tripleOf}
 use denote.Triple.Table.{entered}
 use denote.Triple.Walked.{says, Stays, stay-none-slice, stay-none, walkOf, goes-none-slice, goes-none, Walks, ends-at, walked, walk-meets}
 use denote.Exit.{yes}
-use Rattle.op.specs.Choice.{pick}
 use Rattle.code.specs.Entries.{contains, findFrom}
 use Rattle.code.specs.Lookups.{coversOf}
 use Rattle.code.specs.declared.ExceptionEntry.{ExceptionEntry}
@@ -83,11 +82,11 @@ abbrev stayed : Stays (find.ended .signature .params) (find.ended .kept)
 stayed = (stay-none-slice (0 ∷ []) tt (plain (λ _. E)) yes, (stay-none (λ _. u32) yes, tt))
 
 -- ---- the search, row by row
-picked : (t : Bool) (a c : Found) → Holds t → pick t a c ≡ a
+picked : (t : Bool) (a c : Found) → Holds t → cond t a c ≡ a
 picked true a c h = refl
 picked false a c h = absurd h
 
-passed : (t : Bool) (a c : Found) → Holds (not t) → pick t a c ≡ c
+passed : (t : Bool) (a c : Found) → Holds (not t) → cond t a c ≡ c
 passed true a c h = absurd h
 passed false a c h = refl
 
@@ -96,10 +95,10 @@ unfolding findFrom
 at-end xs x i h = rw (drop-of-length-le xs)
 
 one-on : (xs : List ExceptionEntry) (x i : ℕ) → i < length xs
-    → findFrom (dropN i xs) x i ≡ pick (contains (getD xs i none) x) (Row i (getD xs i none)) (findFrom (dropN (i + 1) xs) x (i + 1))
+    → findFrom (dropN i xs) x i ≡ cond (contains (getD xs i none) x) (Row i (getD xs i none)) (findFrom (dropN (i + 1) xs) x (i + 1))
 unfolding findFrom
 one-on xs x i l = ap (λ (ys : List ExceptionEntry). findFrom ys x i) (drop-cons xs i none l)
-    ∙ ap (λ (k : ℕ). pick (contains (getD xs i none) x) (Row i (getD xs i none)) (findFrom (dropN k xs) x (i + 1))) (sym (add-one i))
+    ∙ ap (λ (k : ℕ). cond (contains (getD xs i none) x) (Row i (getD xs i none)) (findFrom (dropN k xs) x (i + 1))) (sym (add-one i))
 
 -- the loop's state
 record At (xs : List ExceptionEntry) (x : ℕ) : Type 0 where
