@@ -4,7 +4,7 @@ use mathlib.Core.Path.{_≡_, refl, ap}
 use mathlib.Core.List.{List}
 use Prim.Native.Nat.{ℕ, _≤_}
 use native.Mathlib.Omega.{arith}
-use lib.ListN.{length, getD, length-append, length-drop}
+use lib.ListN.{length, getD, length-drop}
 use lib.Seq.{getD-drop}
 use borrow.Author.Tests.{lt-ltb, le-leb}
 use Rattle.code.specs.Bytes.{front}
@@ -52,7 +52,7 @@ pub state-back : StateBack
 unfolding stateIn
 state-back b value cells h d l =
     let after = front (cellsOf b value) cells in
-    let longer : stateCells ≤ length after = simp (length-append, length-drop) (omega arith) in
+    let longer : stateCells ≤ length after = simp length-drop (omega arith) in
     rw (
       le-leb stateCells (length after) longer,
       depth-back (b .core .depth) d,
@@ -82,7 +82,7 @@ module _ (b : Builder) (k : Core) (value : ℕ) (cells : List ℕ) where
   back fits e =
       let h : stateCells ≤ length cells = enough cells b e in
       let w = rw (le-leb stateCells (length cells) h) at e in
-      let longer : stateCells ≤ length after = simp (length-append, length-drop) (omega arith) in
+      let longer : stateCells ≤ length after = simp length-drop (omega arith) in
       rw (le-leb stateCells (length after) longer, depth-back (k .depth) fits)
       (simp getD-drop
       (other

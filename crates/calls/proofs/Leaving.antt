@@ -54,28 +54,28 @@ pub depth-none : {A : Type 0} (t : DepthIn) (none : A) (on : Depth → A) → t 
 unfolding toldDepth
 depth-none t none on e = rw e refl
 
-pub depth-is : {A : Type 0} (t : DepthIn) (none : A) (on : Depth → A) (d : Depth) → t ≡ D.Is d
-    → on d ≡ toldDepth t none on
+pub depth-is : {A : Type 0} (t : DepthIn) (none : A) (on : Depth → A) (d : Depth) (x : A) → t ≡ D.Is d → x ≡ on d
+    → x ≡ toldDepth t none on
 unfolding toldDepth
-depth-is t none on d e = rw e refl
+depth-is t none on d x e h = rw e h
 
 pub focus-none : {A : Type 0} (t : FocusIn) (none : A) (on : Focus → A) → t ≡ F.Nothing → none ≡ toldFocus t none on
 unfolding toldFocus
 focus-none t none on e = rw e refl
 
-pub focus-is : {A : Type 0} (t : FocusIn) (none : A) (on : Focus → A) (f : Focus) → t ≡ F.Is f
-    → on f ≡ toldFocus t none on
+pub focus-is : {A : Type 0} (t : FocusIn) (none : A) (on : Focus → A) (f : Focus) (x : A) → t ≡ F.Is f → x ≡ on f
+    → x ≡ toldFocus t none on
 unfolding toldFocus
-focus-is t none on f e = rw e refl
+focus-is t none on f x e h = rw e h
 
 pub kind-none : {A : Type 0} (t : KindIn) (none : A) (on : HandlerKind → A) → t ≡ K.Nothing → none ≡ toldKind t none on
 unfolding toldKind
 kind-none t none on e = rw e refl
 
-pub kind-is : {A : Type 0} (t : KindIn) (none : A) (on : HandlerKind → A) (k : HandlerKind) → t ≡ K.Is k
-    → on k ≡ toldKind t none on
+pub kind-is : {A : Type 0} (t : KindIn) (none : A) (on : HandlerKind → A) (k : HandlerKind) (x : A) → t ≡ K.Is k → x ≡ on k
+    → x ≡ toldKind t none on
 unfolding toldKind
-kind-is t none on k e = rw e refl
+kind-is t none on k x e h = rw e h
 
 -- a refusal changes no cell
 

@@ -84,8 +84,8 @@ returns-3 c =
     let after-held = after-kind-in .before .before in
     let after-state-in = after-held .before .before in
     kept-goes _ _ _ _ _ _ _ _ _ (sym (after-state-in .state-in .ensures) ∙ after-held .held .given .1)
-    (after-add-exception-entry .add-exception-entry .ensures
-    ∙ kind-is _ _ _ _ (sym (after-kind-in .kind-in .ensures) ∙ after-told .told .given .1))
+    (kind-is _ _ _ _ _ (sym (after-kind-in .kind-in .ensures) ∙ after-told .told .given .1)
+    (after-add-exception-entry .add-exception-entry .ensures))
     (after-leave .leave .ensures)
 
 pub tfb-add-exception-entry-spec : {M : Type 1} → statement M

@@ -80,8 +80,8 @@ returns-3 c =
     let after-held = after-focus-in .before .before in
     let after-state-in = after-held .before .before in
     alone-goes _ _ _ _ _ _ _ (sym (after-state-in .state-in .ensures) ∙ after-held .held .given .1)
-    (ap Accepted (after-set-location .set-location .ensures)
-    ∙ focus-is _ _ _ _ (sym (after-focus-in .focus-in .ensures) ∙ after-told .told .given .1))
+    (focus-is _ _ _ _ _ (sym (after-focus-in .focus-in .ensures) ∙ after-told .told .given .1)
+    (ap Accepted (after-set-location .set-location .ensures)))
     (after-leave .leave .ensures)
 
 pub tfb-set-location-spec : {M : Type 1} → statement M
