@@ -8,6 +8,7 @@ use lib.Dec.{leb, ltb, eqb}
 use lib.IntN.{ℤ}
 use lib.ListN.{length}
 use borrow.Author.Tests.{leb-true, ltb-true, eqb-true}
+use Rattle.base.proofs.Bools.{and-true}
 use Rattle.op.specs.Depths.{takenDepthOf}
 use Rattle.op.specs.declared.After.the-variants as A
 use Rattle.op.specs.declared.Operand.the-variants.{Offset}
@@ -34,7 +35,7 @@ use Rattle.builder.specs.Plan.{Back, askSound, emittingOf, enterOf, soun
 use Rattle.builder.specs.Forward.{commitJump, emitJumpOf, jumpAsked, jumpPlanOf, unpatched}
 use Rattle.builder.specs.Back.{commitTo, jumpBy, jumpToCore, toAsked, toPlanOf}
 use Rattle.builder.specs.Inner.{Goes, JumpGoes, Lives, Sound, alsoRow, bytesOf}
-use Rattle.builder.proofs.Plans.{Aims, LineGoes, LiveGoes, also-free, both, goes-by, line-enters, line-goes, line-live}
+use Rattle.builder.proofs.Plans.{Aims, LineGoes, LiveGoes, also-free, goes-by, line-enters, line-goes, line-live}
 
 -- what a plan comes to
 
@@ -54,7 +55,7 @@ jumped-to c l k t code locs marks p e = sym (ap (λ (q : Plan). commitTo q c l k
 
 pub near-true : (o t : ℕ) → near o t ≡ true → (o + 3 ≤ t + 32768) × (t ≤ o + 3 + 32767)
 unfolding near
-near-true o t e = let p = both (leb (o + 3) (t + 32768)) (leb t (o + 3 + 32767)) e in
+near-true o t e = let p = and-true (leb (o + 3) (t + 32768)) (leb t (o + 3 + 32767)) e in
     (leb-true _ _ (p .0), leb-true _ _ (p .1))
 
 -- a mark that is there is in a used row

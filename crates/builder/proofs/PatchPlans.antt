@@ -8,6 +8,7 @@ use native.Mathlib.Omega.{arith}
 use lib.Dec.{leb}
 use lib.ListN.{length}
 use borrow.Author.Tests.{leb-true}
+use Rattle.base.proofs.Bools.{and-true, clash}
 use Rattle.op.specs.declared.Refusal.{Refusal}
 use Rattle.op.specs.declared.Refusal.the-variants.{JumpTooFar, DepthsDiffer, Unsound}
 use Rattle.builder.specs.declared.Builder.{Builder}
@@ -23,7 +24,6 @@ use Rattle.code.specs.Tables.{codeLimit, markCells, wordMax}
 use Rattle.builder.specs.Marks.{bits, fits, markIn, markSound, markable, meets, near, revived}
 use Rattle.builder.specs.Patch.{commitPatch, markPlanOf, openPlan, patchGuard, patchJumpOf, patchPlanOf}
 use Rattle.builder.specs.Inner.{Markable}
-use Rattle.builder.proofs.Plans.{both}
 use Rattle.builder.proofs.JumpPlans.{mark-used}
 
 -- what a plan comes to
@@ -43,13 +43,13 @@ patch-guard-go false r p e = (cc, cc)
 pub markable-true : (c : Core) (cl ml : ℕ) → markable c cl ml ≡ true → Markable c cl ml
 unfolding markable
 markable-true c cl ml e =
-    let p = both (leb (c .code) cl && leb (c .code) codeLimit) (leb (c .marks) (ml / markCells)) e in
-    let q = both (leb (c .code) cl) (leb (c .code) codeLimit) (p .0) in
+    let p = and-true (leb (c .code) cl && leb (c .code) codeLimit) (leb (c .marks) (ml / markCells)) e in
+    let q = and-true (leb (c .code) cl) (leb (c .code) codeLimit) (p .0) in
     record { code = leb-true _ _ (q .0); limit = leb-true _ _ (q .1); rows = leb-true _ _ (p .1) }
 
 pub fits-true : (depth place code : ℕ) → fits depth place code ≡ true → (depth ≤ wordMax) × (place ≤ code)
 unfolding fits
-fits-true depth place code e = let p = both (leb depth wordMax) (leb place code) e in
+fits-true depth place code e = let p = and-true (leb depth wordMax) (leb place code) e in
     (leb-true _ _ (p .0), leb-true _ _ (p .1))
 
 pub record PatchGoes (c : Core) (m : Mark) (o : ℕ) (a : Depth) (w : ℕ) : Type 0 where
@@ -64,9 +64,9 @@ pub record PatchGoes (c : Core) (m : Mark) (o : ℕ) (a : Depth) (w : ℕ) : Typ
 
 module _ (c : Core) (o w : ℕ) (a : Depth) where
   by-mark : (m x : Mark) → m ≡ x → markSound (c .code) x ≡ true → openPlan x c ≡ Go a w o → PatchGoes c m o a w
-  by-mark m Absent em es e = let z : _≡_ {A = ℕ} 0 1 = cc in absurd (omega arith)
-  by-mark m (Target p d) em es e = let z : _≡_ {A = ℕ} 0 1 = cc in absurd (omega arith)
-  by-mark m (Patched p d) em es e = let z : _≡_ {A = ℕ} 0 1 = cc in absurd (omega arith)
+  by-mark m Absent em es e = clash cc
+  by-mark m (Target p d) em es e = clash cc
+  by-mark m (Patched p d) em es e = clash cc
   by-mark m (Open p d) em es e =
       let p2 : PatchPlan = Go (revived (c .depth) d) (bits p (c .code)) p in
       let e1 = patch-guard-go (meets (c .depth) d) DepthsDiffer (patchGuard (near p (c .code)) JumpTooFar p2) e in
@@ -98,5 +98,5 @@ module _ (c : Core) (o w : ℕ) (a : Depth) where
   patch-writes cl i marks ok e =
       let g = patch-goes (markIn (c .marks) marks i) e in
       let u = mark-used (c .marks) marks i (Open o (g .depth)) (g .mark)
-      (λ n. let z : _≡_ {A = ℕ} 0 1 = cc in omega arith) in
+      (λ n. clash cc) in
       (omega (arith, g .place, ok .code), omega (arith, u .0, ok .rows))

@@ -2,11 +2,11 @@
 -- is the line.
 -- Assumes nothing.
 use mathlib.Core.Path.{_≡_, refl, sym, ap, _∙_}
-use native.Mathlib.Omega.{arith}
 use mathlib.Core.Bool.{Bool, true, false, cond, _&&_}
 use Prim.Native.Nat.{ℕ, _-_, _/_, _≤_}
 use lib.Dec.{leb, eqb}
 use borrow.Author.Tests.{leb-true, eqb-true}
+use Rattle.base.proofs.Bools.{and-true, clash}
 use Rattle.op.specs.Opcodes.{known, rowOf}
 use Rattle.op.specs.Effects.{effectOf, effectBy, ruleIn, formerOf, lastOf}
 use Rattle.op.specs.Depths.{landing, lowFalling, afterOf}
@@ -40,21 +40,17 @@ use Rattle.builder.specs.Plan.{depthHere, emittingOf, enterOf, entered, 
 use Rattle.builder.specs.Plan.{nearAim, plainAsked, planOf, sizeIn, soundOf, takenIn, waySound, wordBy}
 use Rattle.builder.specs.Inner.{Goes, Lives, Sound, alsoRow, bytesOf, fallenOf, roomOf}
 
-pub both : (a b : Bool) → (a && b) ≡ true → (a ≡ true) × (b ≡ true)
-both true b e = (refl, e)
-both false b e = (cc, cc)
-
 pub sound-true : (c : Core) (cl ll : ℕ) → soundOf c cl ll ≡ true → Sound c cl ll
 unfolding soundOf
 sound-true c cl ll e =
-    let p = both (leb (c .code) cl && leb (c .code) codeLimit) (leb (c .locations) (ll / locationCells)) e in
-    let q = both (leb (c .code) cl) (leb (c .code) codeLimit) (p .0) in
+    let p = and-true (leb (c .code) cl && leb (c .code) codeLimit) (leb (c .locations) (ll / locationCells)) e in
+    let q = and-true (leb (c .code) cl) (leb (c .code) codeLimit) (p .0) in
     record { code = leb-true _ _ (q .0); limit = leb-true _ _ (q .1); rows = leb-true _ _ (p .1) }
 
 pub marks-sound : (c : Core) (cl ll ml : ℕ) → (within markCells (c .marks) ml && soundOf c cl ll) ≡ true
     → (c .marks ≤ ml / markCells) × Sound c cl ll
 marks-sound c cl ll ml e =
-    let p = both (within markCells (c .marks) ml) (soundOf c cl ll) e in
+    let p = and-true (within markCells (c .marks) ml) (soundOf c cl ll) e in
     (leb-true _ _ (p .0), sound-true c cl ll (p .1))
 
 pub guard-go : {s w : ℕ} {a : Depth} (t : Bool) (r : Refusal) (p : Plan) → guard t r p ≡ Go a w s
@@ -63,10 +59,10 @@ guard-go true r p e = (refl, e)
 guard-go false r p e = (cc, cc)
 
 idle-go : {s w : ℕ} {a : Depth} → Idle ≡ Go a w s → ⊥
-idle-go e = let z : _≡_ {A = ℕ} 0 1 = cc in omega arith
+idle-go e = clash cc
 
 refuse-go : {s w : ℕ} {a : Depth} {r : Refusal} → Refuse r ≡ Go a w s → ⊥
-refuse-go e = let z : _≡_ {A = ℕ} 0 1 = cc in omega arith
+refuse-go e = clash cc
 
 -- an instruction that falls through has its opcode's shape
 
@@ -150,7 +146,7 @@ pub lives-sound : {h : ℕ} (q : Asked) → Lives q h → Sound (q .core) (q .co
 lives-sound q e =
     let g = enter-live (askSound q) (q .opcode) (q .name) (q .core .depth) e in
     let s = soundOf (q .core) (q .code) (q .locations) in
-    sound-true (q .core) (q .code) (q .locations) (both (waySound (q .way) (q .core) (q .marks)) s (g .sound) .1)
+    sound-true (q .core) (q .code) (q .locations) (and-true (waySound (q .way) (q .core) (q .marks)) s (g .sound) .1)
 
 -- what a call of `enter` answered, told the test of 19 by another name
 pub enters-as : {s t : Bool} {x y : Entered} (k name : ℕ) (d : Depth) → x ≡ enterOf s k name d → s ≡ t → x ≡ y
@@ -207,24 +203,24 @@ aimed-go (Back (T.Row i) (Target o d)) p e = ((i, (o, (d, (refl, refl)))), e)
 
 guard-busy : (t : Bool) (r : Refusal) (p : Plan) → (p ≡ Idle → ⊥) → guard t r p ≡ Idle → ⊥
 guard-busy true r p n e = n e
-guard-busy false r p n e = let z : _≡_ {A = ℕ} 0 1 = cc in omega arith
+guard-busy false r p n e = clash cc
 
 arrived-busy : (x : After) (p : ℕ → Plan) → ((d : ℕ) → p d ≡ Idle → ⊥) → arrived x p ≡ Idle → ⊥
-arrived-busy (A.Refused r) p n e = let z : _≡_ {A = ℕ} 0 1 = cc in omega arith
+arrived-busy (A.Refused r) p n e = clash cc
 arrived-busy (A.Depth d) p n e = n d e
 
 aimed-busy : (x : Way) (p : Plan) → (p ≡ Idle → ⊥) → aimed x p ≡ Idle → ⊥
 aimed-busy Onward p n e = n e
 aimed-busy Ahead p n e = n e
-aimed-busy (Back T.Dead m) p n e = let z : _≡_ {A = ℕ} 0 1 = cc in omega arith
-aimed-busy (Back (T.Row i) Absent) p n e = let z : _≡_ {A = ℕ} 0 1 = cc in omega arith
-aimed-busy (Back (T.Row i) (Open o d)) p n e = let z : _≡_ {A = ℕ} 0 1 = cc in omega arith
-aimed-busy (Back (T.Row i) (Patched o d)) p n e = let z : _≡_ {A = ℕ} 0 1 = cc in omega arith
+aimed-busy (Back T.Dead m) p n e = clash cc
+aimed-busy (Back (T.Row i) Absent) p n e = clash cc
+aimed-busy (Back (T.Row i) (Open o d)) p n e = clash cc
+aimed-busy (Back (T.Row i) (Patched o d)) p n e = clash cc
 aimed-busy (Back (T.Row i) (Target o d)) p n e = n e
 
 entered-idle : (x : Entered) (p : ℕ → Plan) → ((h : ℕ) → p h ≡ Idle → ⊥) → entered x p ≡ Idle → x ≡ E.Dead
 entered-idle E.Dead p n e = refl
-entered-idle (E.Refused r) p n e = let z : _≡_ {A = ℕ} 0 1 = cc in absurd (omega arith)
+entered-idle (E.Refused r) p n e = clash cc
 entered-idle (E.Live h) p n e = absurd (n h e)
 
 -- the line
@@ -302,7 +298,7 @@ module _ (q : Asked) where
       let e9 = guard-go (codeFree q) (Full Code) (located t n) (e8 .1 .1) in
       let e10 = guard-go (locationFree q) (Full Locations) (marked t n) (e9 .1) in
       let e11 = guard-go (markFree (q .way) (q .core) (q .marks)) (Full Marks) (last t n) (e10 .1) in
-      let f = both (leb (sizeIn q) (q .code - at)) (leb (sizeIn q) (codeLimit - at)) (e9 .0) in
+      let f = and-true (leb (sizeIn q) (q .code - at)) (leb (sizeIn q) (codeLimit - at)) (e9 .0) in
       let z : Go (behind (q .opcode) n) (wordBy (q .way) t at) (sizeIn q) ≡ Go a w s = e11 .1 in
       let zs : s ≡ sizeIn q = cc in
       record {
@@ -335,7 +331,7 @@ module _ (q : Asked) where
       (entered-idle (enterOf (askSound q) (q .opcode) (q .name) (q .core .depth)) taking takes-busy e)
     where
       done : (t n : ℕ) → last t n ≡ Idle → ⊥
-      done t n e = let z : _≡_ {A = ℕ} 0 1 = cc in omega arith
+      done t n e = clash cc
 
       rooms-busy : (t n : ℕ) → coded t n ≡ Idle → ⊥
       rooms-busy t n =

@@ -7,8 +7,9 @@ use Prim.Native.Nat.{ℕ, _+_, _*_, _/_, _≤_, _<_}
 use native.Mathlib.Omega.{arith}
 use borrow.Author.Count.{below-more}
 use borrow.Author.Tests.{ltb-true}
-use lib.ListN.{length, getD, take}
+use lib.ListN.{length, getD}
 use lib.Seq.{getD-take}
+use Rattle.base.proofs.Bools.{clash}
 use Rattle.op.specs.declared.Operand.{Operand}
 use Rattle.code.specs.Encode.{encode}
 use Rattle.code.specs.Tables.{codeLimit, locationCells}
@@ -94,7 +95,7 @@ module _ (b next : Builder) (k name : ℕ) (o : Operand) (ns code locs : List �
   stays-by Idle e a =
       let same : withCore b (b .core) ≡ next = cc in
       subst (λ (n : Builder). Behind (n .core) locs) same before
-  stays-by (Refuse r) e a = let z : _≡_ {A = ℕ} 0 1 = cc in absurd (omega arith)
+  stays-by (Refuse r) e a = clash cc
   stays-by (Go d w s) e a =
       let g = goes (b .core) (b .location) k name o (length ns) (length code) (length locs) s w d e in
       let same : withCore b (coreAfter (b .core) (b .location) s d) ≡ next = cc in
@@ -112,9 +113,8 @@ module _ (b next : Builder) (k name : ℕ) (o : Operand) (ns code locs : List �
         → Finds (b .core) (next .core) range focus (commitOf p (b .core) (b .location) (encode k o ns) code locs .locations)
     found-by Idle e a =
         let dead = idle-dead e in
-        let z : _≡_ {A = ℕ} 0 1 = cc in
-        absurd (omega arith)
-    found-by (Refuse r) e a = let z : _≡_ {A = ℕ} 0 1 = cc in absurd (omega arith)
+        clash cc
+    found-by (Refuse r) e a = clash cc
     found-by (Go d w s) e a =
         let g = goes (b .core) (b .location) k name o (length ns) (length code) (length locs) s w d e in
         let same : withCore b (coreAfter (b .core) (b .location) s d) ≡ next = cc in

@@ -2,7 +2,7 @@
 -- offset leave none. The examples rest on it.
 -- Assumes nothing.
 use mathlib.Core.Path.{_≡_, refl, sym, ap, subst, _∙_}
-use mathlib.Core.Bool.{Bool, true, false, cond}
+use mathlib.Core.Bool.{Bool, true, false, cond, _&&_}
 use mathlib.Core.List.{List, _++_}
 use mathlib.Core.Option.{some}
 use Prim.Native.Nat.{ℕ, suc, _+_, _*_, _/_, _%_, _≤_, _<_}
@@ -11,10 +11,11 @@ use native.Mathlib.Decide.{decLt}
 use lib.Dec.{T, eqb, leb, eqb→eq, leb→le}
 use lib.ListN.{length, getD, drop, take, replicate, List·getD-eq-default}
 use borrow.Author.Tests.{le-leb}
+use Rattle.base.proofs.Bools.{and-left, and-right, clash}
 use Rattle.op.specs.declared.After.{After}
 use Rattle.op.specs.declared.After.the-variants as A
 use Rattle.op.specs.declared.Refusal.the-variants.{NoDepths}
-use Rattle.op.proofs.Keys.{everyFrom, in-range}
+use Rattle.base.proofs.Keys.{everyFrom, in-range}
 use Rattle.code.specs.declared.Change.{Change}
 use Rattle.code.specs.declared.Flow.{Flow}
 use Rattle.code.specs.declared.Flowing.{Flowing}
@@ -34,29 +35,15 @@ use Rattle.checker.proofs.Solutions.{counted}
 use Rattle.checker.proofs.Promising.{promise-some, promise-none, promise-one}
 use Rattle.checker.proofs.Reaching.{lead, reached, has, has-in, reached-derived, comesTo, comes-place, ends, ends-whole}
 
--- tests
-
-abbrev pub both : Bool → Bool → Bool
-both true b = b
-both false b = false
-
-left : (a b : Bool) → T (both a b) → T a
-left true b t = tt
-left false b t = t
-
-right : (a b : Bool) → T (both a b) → T b
-right true b t = t
-right false b t = absurd t
-
 -- what an instruction with a depth asks of the cells
 
 abbrev pub holds : List ℕ → ℕ → After → Bool
 holds c q (A.Depth e) = eqb (cell c q) e
 holds c q (A.Refused r) = false
 
-abbrev pub inRange : After → Bool
-inRange (A.Depth e) = true
-inRange (A.Refused r) = false
+abbrev pub isDepth : After → Bool
+isDepth (A.Depth e) = true
+isDepth (A.Refused r) = false
 
 abbrev pub jumpOk : List ℕ → After → Goal → Bool
 jumpOk c x Nowhere = true
@@ -64,7 +51,7 @@ jumpOk c x (To t) = holds c t x
 jumpOk c x Outside = false
 
 abbrev pub keptOk : List ℕ → ℕ → ℕ → Flowing → Bool
-keptOk c o d (F.Op f) = both (cond (f .falls) (holds c (o + f .size) (lead d (f .net))) (inRange (lead d (f .net)))) (jumpOk c (lead d (f .taken)) (f .goal))
+keptOk c o d (F.Op f) = cond (f .falls) (holds c (o + f .size) (lead d (f .net))) (isDepth (lead d (f .net))) && jumpOk c (lead d (f .taken)) (f .goal)
 keptOk c o d F.End = true
 keptOk c o d (F.Refused q) = true
 
@@ -73,17 +60,17 @@ module _ (c : List ℕ) (d : ℕ) (change : Change) where
   holds-in q (A.Depth e) h t = (e, (h, depth-in c q e (eqb→eq (cell c q) e t) (leads-is d change e h .1)))
   holds-in q (A.Refused r) h t = absurd t
 
-  range-in : (x : After) → lead d change ≡ x → T (inRange x) → (e : ℕ) × Leads d change e
+  range-in : (x : After) → lead d change ≡ x → T (isDepth x) → (e : ℕ) × Leads d change e
   range-in (A.Depth e) h t = (e, h)
   range-in (A.Refused r) h t = absurd t
 
 module _ (c : List ℕ) (o d : ℕ) (f : Flow) where
-  falls-kept : (b : Bool) → f .falls ≡ b → T (cond b (holds c (o + f .size) (lead d (f .net))) (inRange (lead d (f .net)))) → Falls (depthIn c) f o d
+  falls-kept : (b : Bool) → f .falls ≡ b → T (cond b (holds c (o + f .size) (lead d (f .net))) (isDepth (lead d (f .net)))) → Falls (depthIn c) f o d
   falls-kept true fl t = let g = holds-in c d (f .net) (o + f .size) (lead d (f .net)) refl t in record { depth = g .0; leads = g .1 .0; has = λ y. g .1 .1 }
-  falls-kept false fl t = let g = range-in c d (f .net) (lead d (f .net)) refl t in record { depth = g .0; leads = g .1; has = λ y. absurd (clash y fl) }
+  falls-kept false fl t = let g = range-in c d (f .net) (lead d (f .net)) refl t in record { depth = g .0; leads = g .1; has = λ y. absurd (apart y fl) }
     where
-      clash : f .falls ≡ true → f .falls ≡ false → ⊥
-      clash p q = let z : _≡_ {A = ℕ} 0 1 = cc in omega arith
+      apart : f .falls ≡ true → f .falls ≡ false → ⊥
+      apart p q = clash cc
 
   jumps-kept : (x : Goal) → f .goal ≡ x → T (jumpOk c (lead d (f .taken)) x) → (f .goal ≡ Nowhere → ⊥) → Jumps (depthIn c) f d
   jumps-kept Nowhere g t n = absurd (n g)
@@ -92,51 +79,49 @@ module _ (c : List ℕ) (o d : ℕ) (f : Flow) where
 
   op-kept : T (keptOk c o d (F.Op f)) → Kept (depthIn c) f o d
   op-kept t =
-      let a = cond (f .falls) (holds c (o + f .size) (lead d (f .net))) (inRange (lead d (f .net))) in
+      let a = cond (f .falls) (holds c (o + f .size) (lead d (f .net))) (isDepth (lead d (f .net))) in
       let b = jumpOk c (lead d (f .taken)) (f .goal) in
-      record { falls = falls-kept (f .falls) refl (left a b t); jumps = jumps-kept (f .goal) refl (right a b t) }
+      record { falls = falls-kept (f .falls) refl (and-left a b t); jumps = jumps-kept (f .goal) refl (and-right a b t) }
 
 -- the test
 
 abbrev pub startOk : ℕ → List ℕ → List ℕ → ℕ → Bool
-startOk last s st k = both (leb (getD st (2 * k + 1) 0) 65535) (comesTo last s (getD st (2 * k) 0))
+startOk last s st k = leb (getD st (2 * k + 1) 0) 65535 && comesTo last s (getD st (2 * k) 0)
 
 -- the code has no fault, and the start list can be
 abbrev pub inputOk : ℕ → List ℕ → List ℕ → Bool
-inputOk last s st = both (ends last s) (both (eqb (length st % 2) 0) (everyFrom (startOk last s st) 0 (length st / 2)))
+inputOk last s st = ends last s && (eqb (length st % 2) 0 && everyFrom (startOk last s st) 0 (length st / 2))
 
 abbrev pub depthOk : ℕ → List ℕ → List ℕ → List ℕ → ℕ → ℕ → Bool
-depthOk last s st c k o = both (has o (cell c o) (reached last s st k)) (both (comesTo last s o) (keptOk c o (cell c o) (flowOf last o (drop o s))))
+depthOk last s st c k o = has o (cell c o) (reached last s st k) && (comesTo last s o && keptOk c o (cell c o) (flowOf last o (drop o s)))
 
 -- a cell holds 65,536, or a depth that k steps lead to, at a place, and that is respected
 abbrev pub cellOk : ℕ → List ℕ → List ℕ → List ℕ → ℕ → ℕ → Bool
-cellOk last s st c k o = both (leb (cell c o) 65536) (cond (leb (cell c o) 65535) (depthOk last s st c k o) true)
+cellOk last s st c k o = leb (cell c o) 65536 && cond (leb (cell c o) 65535) (depthOk last s st c k o) true
 
 abbrev pub startHeld : List ℕ → List ℕ → ℕ → Bool
 startHeld st c k = eqb (cell c (getD st (2 * k) 0)) (getD st (2 * k + 1) 0)
 
 unfoldable pub certificate : ℕ → List ℕ → List ℕ → List ℕ → ℕ → Bool
 certificate last s st c k =
-    both (inputOk last s st)
-    (both (eqb (length c) (suc (length s)))
-    (both (everyFrom (startHeld st c) 0 (length st / 2))
-    (everyFrom (cellOk last s st c k) 0 (length c))))
+    inputOk last s st
+    && (eqb (length c) (suc (length s)) && (everyFrom (startHeld st c) 0 (length st / 2) && everyFrom (cellOk last s st c k) 0 (length c)))
 
 module _ (last : ℕ) (s st : List ℕ) (t : T (inputOk last s st)) where
-  t2 : T (both (eqb (length st % 2) 0) (everyFrom (startOk last s st) 0 (length st / 2)))
-  t2 = right (ends last s) (both (eqb (length st % 2) 0) (everyFrom (startOk last s st) 0 (length st / 2))) t
+  t2 : T (eqb (length st % 2) 0 && everyFrom (startOk last s st) 0 (length st / 2))
+  t2 = and-right (ends last s) (eqb (length st % 2) 0 && everyFrom (startOk last s st) 0 (length st / 2)) t
 
   pub input-whole : NoFault last s
-  input-whole = ends-whole last s (left (ends last s) (both (eqb (length st % 2) 0) (everyFrom (startOk last s st) 0 (length st / 2))) t)
+  input-whole = ends-whole last s (and-left (ends last s) (eqb (length st % 2) 0 && everyFrom (startOk last s st) 0 (length st / 2)) t)
 
   pub input-listed : Listed last s st
   input-listed = record {
-    even = eqb→eq (length st % 2) 0 (left (eqb (length st % 2) 0) (everyFrom (startOk last s st) 0 (length st / 2)) t2);
+    even = eqb→eq (length st % 2) 0 (and-left (eqb (length st % 2) 0) (everyFrom (startOk last s st) 0 (length st / 2)) t2);
     good = λ k l.
-        let i = in-range (startOk last s st) 0 (length st / 2) k (omega arith) (omega arith) (right (eqb (length st % 2) 0) (everyFrom (startOk last s st) 0 (length st / 2)) t2) in
+        let i = in-range (startOk last s st) 0 (length st / 2) k (omega arith) (omega arith) (and-right (eqb (length st % 2) 0) (everyFrom (startOk last s st) 0 (length st / 2)) t2) in
         let a = leb (getD st (2 * k + 1) 0) 65535 in
         let b = comesTo last s (getD st (2 * k) 0) in
-        (leb→le (getD st (2 * k + 1) 0) 65535 (left a b i), comes-place last s (getD st (2 * k) 0) (right a b i));
+        (leb→le (getD st (2 * k + 1) 0) 65535 (and-left a b i), comes-place last s (getD st (2 * k) 0) (and-right a b i));
   }
 
 -- what the test shows
@@ -153,35 +138,35 @@ module _ (last : ℕ) (s st c : List ℕ) (k : ℕ) (input : T (inputOk last s s
 
   cell-small : (o : ℕ) → cell c o ≤ 65536
   cell-small o = elim (decLt o (length c)) [
-    | yes l ↦ leb→le (cell c o) 65536 (left (leb (cell c o) 65536) (cond (leb (cell c o) 65535) (depthOk last s st c k o) true) (cell-ok o l))
+    | yes l ↦ leb→le (cell c o) 65536 (and-left (leb (cell c o) 65536) (cond (leb (cell c o) 65535) (depthOk last s st c k o) true) (cell-ok o l))
     | no l ↦ (let z : cell c o ≡ 65536 = List·getD-eq-default c 65536 (omega arith) in omega arith)
   ]
 
   deep : (o : ℕ) → cell c o ≤ 65535 → T (depthOk last s st c k o)
   deep o h =
       let l = cell-in c o (λ z. omega arith) in
-      let t = right (leb (cell c o) 65536) (cond (leb (cell c o) 65535) (depthOk last s st c k o) true) (cell-ok o l) in
+      let t = and-right (leb (cell c o) 65536) (cond (leb (cell c o) 65535) (depthOk last s st c k o) true) (cell-ok o l) in
       subst (λ (b : Bool). T (cond b (depthOk last s st c k o) true)) (le-leb (cell c o) 65535 h) t
 
   deep-rest : (o : ℕ) → cell c o ≤ 65535
-      → T (both (comesTo last s o) (keptOk c o (cell c o) (flowOf last o (drop o s))))
-  deep-rest o h = right (has o (cell c o) (reached last s st k)) (both (comesTo last s o) (keptOk c o (cell c o) (flowOf last o (drop o s)))) (deep o h)
+      → T (comesTo last s o && keptOk c o (cell c o) (flowOf last o (drop o s)))
+  deep-rest o h = and-right (has o (cell c o) (reached last s st k)) (comesTo last s o && keptOk c o (cell c o) (flowOf last o (drop o s))) (deep o h)
 
   cell-derived : (o d : ℕ) → depthIn c o ≡ some d → Derived last s st o d
   cell-derived o d e =
       let i = in-depth c o d e in
-      let t = left (has o (cell c o) (reached last s st k)) (both (comesTo last s o) (keptOk c o (cell c o) (flowOf last o (drop o s)))) (deep o (omega arith)) in
+      let t = and-left (has o (cell c o) (reached last s st k)) (comesTo last s o && keptOk c o (cell c o) (flowOf last o (drop o s))) (deep o (omega arith)) in
       subst (λ (x : ℕ). Derived last s st o x) (i .0) (reached-derived s st k o (cell c o) (has-in o (cell c o) (reached last s st k) t))
 
   cell-place : (o d : ℕ) → depthIn c o ≡ some d → Place last s o × (d ≤ 65535)
   cell-place o d e =
       let i = in-depth c o d e in
-      (comes-place last s o (left (comesTo last s o) (keptOk c o (cell c o) (flowOf last o (drop o s))) (deep-rest o (omega arith))), i .1)
+      (comes-place last s o (and-left (comesTo last s o) (keptOk c o (cell c o) (flowOf last o (drop o s))) (deep-rest o (omega arith))), i .1)
 
   cell-kept : (o d : ℕ) (f : Flow) → depthIn c o ≡ some d → Stands last s o f → Kept (depthIn c) f o d
   cell-kept o d f e h =
       let i = in-depth c o d e in
-      let t = right (comesTo last s o) (keptOk c o (cell c o) (flowOf last o (drop o s))) (deep-rest o (omega arith)) in
+      let t = and-right (comesTo last s o) (keptOk c o (cell c o) (flowOf last o (drop o s))) (deep-rest o (omega arith)) in
       subst (λ (x : ℕ). Kept (depthIn c) f o x) (i .0) (op-kept c o (cell c o) f (subst (λ (x : Flowing). T (keptOk c o (cell c o) x)) (h .is) t))
 
   start-held : (o d : ℕ) → Begins st o d → depthIn c o ≡ some d
@@ -215,12 +200,12 @@ pub certified : (last : ℕ) (s st c : List ℕ) (k : ℕ) → T (certificate la
 unfolding certificate
 certified last s st c k t =
     let fourth = everyFrom (cellOk last s st c k) 0 (length c) in
-    let third = both (everyFrom (startHeld st c) 0 (length st / 2)) fourth in
-    let second = both (eqb (length c) (suc (length s))) third in
-    let t2 = right (inputOk last s st) second t in
-    let t3 = right (eqb (length c) (suc (length s))) third t2 in
-    cells-certified last s st c k (left (inputOk last s st) second t) (left (eqb (length c) (suc (length s))) third t2)
-    (left (everyFrom (startHeld st c) 0 (length st / 2)) fourth t3) (right (everyFrom (startHeld st c) 0 (length st / 2)) fourth t3)
+    let third = everyFrom (startHeld st c) 0 (length st / 2) && fourth in
+    let second = eqb (length c) (suc (length s)) && third in
+    let t2 = and-right (inputOk last s st) second t in
+    let t3 = and-right (eqb (length c) (suc (length s))) third t2 in
+    cells-certified last s st c k (and-left (inputOk last s st) second t) (and-left (eqb (length c) (suc (length s))) third t2)
+    (and-left (everyFrom (startHeld st c) 0 (length st / 2)) fourth t3) (and-right (everyFrom (startHeld st c) 0 (length st / 2)) fourth t3)
 
 -- so every check of such code answers and leaves just this
 pub must-accept : (last : ℕ) (s st c : List ℕ) (k : ℕ) → T (certificate last s st c k) → length s ≤ 1048576

@@ -10,9 +10,10 @@ use native.Mathlib.Nat.{not-suc-le-zero}
 use lib.ListN.{length, getD, set, take, length-set, length-take, replicate, drop}
 use lib.Seq.{take-suc, take-suc-set, take-set-le, drop-length}
 use borrow.Author.Count.{below-more}
+use Rattle.base.proofs.Lists.{getD-any}
 use Rattle.checker.specs.Cells.{cell, held}
 use Rattle.checker.specs.Inner.{Tidied, Cleaned}
-use Rattle.checker.proofs.Holding.{cell-set-same, cell-set-other, getD-any, held-append, held-le, held-single, held-single-0}
+use Rattle.checker.proofs.Holding.{cell-set-same, cell-set-other, held-append, held-le, held-single, held-single-0}
 
 -- one cell
 

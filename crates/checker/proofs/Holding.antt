@@ -9,9 +9,10 @@ use native.Mathlib.Omega.{arith}
 use native.Mathlib.Decide.{decLt, ℕ-discrete}
 use native.Mathlib.Nat.{le-of-suc-le-suc, not-suc-le-zero}
 use lib.Dec.{leb}
-use lib.ListN.{length, getD, set, List·getD-eq-default}
+use lib.ListN.{length, set, List·getD-eq-default}
 use lib.Seq.{getD-set-same, getD-set-other}
 use borrow.Author.Tests.{le-leb, lt-leb, leb-true}
+use Rattle.base.proofs.Bools.{clash}
 use Rattle.checker.specs.Cells.{cell, depthIn, held}
 
 -- cells as an assignment
@@ -22,7 +23,7 @@ depth-in c o d e l = rw (e, le-leb d 65535 l)
 
 picked : (b : Bool) (x d : ℕ) → cond b (some x) none ≡ some d → (b ≡ true) × (x ≡ d)
 picked true x d e = (refl, cc)
-picked false x d e = let z : _≡_ {A = ℕ} 0 1 = cc in absurd (omega arith)
+picked false x d e = clash cc
 
 pub in-depth : (c : List ℕ) (o d : ℕ) → depthIn c o ≡ some d → (cell c o ≡ d) × (d ≤ 65535)
 unfolding depthIn
@@ -56,11 +57,6 @@ cell-set c o d l P q here there = elim (ℕ-discrete q o) [
 
 pub cell-in : (c : List ℕ) (o : ℕ) → (cell c o ≡ 65536 → ⊥) → o < length c
 cell-in c o n = elim (decLt o (length c)) [ yes l ↦ l | no g ↦ absurd (n (List·getD-eq-default c 65536 (omega arith))) ]
-
-pub getD-any : (c : List ℕ) (o a b : ℕ) → o < length c → getD c o a ≡ getD c o b
-getD-any [] o a b l = absurd (not-suc-le-zero l)
-getD-any (x ∷ c) zero a b l = refl
-getD-any (x ∷ c) (suc o) a b l = getD-any c o a b (le-of-suc-le-suc l)
 
 -- how many hold a depth
 

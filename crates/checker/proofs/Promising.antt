@@ -12,6 +12,7 @@ use lib.Dec.{leb}
 use lib.ListN.{length, drop, take, replicate}
 use lib.Seq.{ext-getD, length-take-le}
 use borrow.Author.Tests.{leb-true}
+use Rattle.base.proofs.Bools.{and-true, clash}
 use Rattle.op.specs.Opcodes.{lastOpcode}
 use Rattle.op.specs.declared.Refusal.{Refusal}
 use Rattle.op.specs.declared.Refusal.the-variants.{TooLarge, Unsound, ShortDepths, BadStarts, NoDepths}
@@ -21,11 +22,10 @@ use Rattle.code.proofs.Counting.{counts-one}
 use Rattle.code.proofs.Places.{fault-one}
 use Rattle.builder.specs.declared.Builder.{Builder}
 use Rattle.code.specs.Tables.{codeLimit, startCells, within}
-use Rattle.builder.proofs.Plans.{both}
 use Rattle.checker.specs.declared.Checked.{Checked}
 use Rattle.checker.specs.declared.Checked.the-variants.{Accepted, Refused}
 use Rattle.checker.specs.Cells.{cell, depthIn}
-use Rattle.checker.specs.Promise.{TooLong, NoRoom, Listed, Astray, Solution, Became, Accepts, Unless, stops, passes, Promise, builtSound, Miscounted, BuiltPromise}
+use Rattle.checker.specs.Promise.{TooLong, NoRoom, Listed, Astray, Solution, Became, Accepts, Unless, stops, passes, Promise, builtSound, BuiltPromise}
 use Rattle.checker.specs.Statements.{PromiseOne, BuiltOne}
 use Rattle.checker.specs.Inner.{NoFault, Outcome}
 use Rattle.checker.proofs.Holding.{depth-in, in-depth}
@@ -92,8 +92,8 @@ part-size d n l = length-take-le (n + 1) d (omega arith) ∙ add-one n
 pub built-within : (b : Builder) (cl sl : ℕ) → builtSound b cl sl ≡ true → (b .core .code ≤ cl) × (b .starts * startCells ≤ sl)
 unfolding builtSound
 built-within b cl sl e =
-    let p = both (leb (b .core .code) cl && leb (b .core .code) codeLimit) (within startCells (b .starts) sl) e in
-    let q = both (leb (b .core .code) cl) (leb (b .core .code) codeLimit) (p .0) in
+    let p = and-true (leb (b .core .code) cl && leb (b .core .code) codeLimit) (within startCells (b .starts) sl) e in
+    let q = and-true (leb (b .core .code) cl) (leb (b .core .code) codeLimit) (p .0) in
     let rows = leb-true (b .starts) (sl / startCells) (p .1) in
     (leb-true _ _ (q .0), omega arith)
 
@@ -116,7 +116,7 @@ past (stops q p a) no-way on = no-way q a
 past (passes n b) no-way on = on n b
 
 not-refused : {r : Checked} {k : ℕ} {q : Refusal} → r ≡ Accepted k → r ≡ Refused q → ⊥
-not-refused {r} {k} {q} e h = let z : _≡_ {A = ℕ} 0 1 = cc in omega arith
+not-refused {r} {k} {q} e h = clash cc
 
 pub accepted : {last : ℕ} {s st d d′ : List ℕ} {r : Checked} {k : ℕ} → Promise last s st d d′ r → r ≡ Accepted k
     → Accepts last s st d d′ r

@@ -2,7 +2,7 @@
 -- reading comes to. The certificate of an assignment rests on it.
 -- Assumes nothing.
 use mathlib.Core.Path.{_≡_, refl, sym, ap, subst, _∙_}
-use mathlib.Core.Bool.{Bool, true, false, cond}
+use mathlib.Core.Bool.{Bool, true, false, cond, _||_}
 use mathlib.Core.List.{List, [], _∷_, _++_, List·Memᴰ, List·Memᴰ·head, List·Memᴰ·tail, List·Memᴰ·cases-cons, List·Memᴰ·not-nil, List·Memᴰ·append-cases}
 use mathlib.Core.Logic.{⊎-elim}
 use mathlib.Core.Option.{Option, some, none}
@@ -10,7 +10,7 @@ use Prim.Native.Nat.{ℕ, zero, suc, _+_, _*_}
 use native.Mathlib.Omega.{arith}
 use lib.Dec.{T, eqb, eqb→eq}
 use lib.ListN.{drop}
-use Rattle.op.specs.Choice.{isIn}
+use Rattle.base.specs.Tests.{isIn}
 use Rattle.op.specs.Depths.{landing, lowFalling}
 use Rattle.op.specs.declared.After.{After}
 use Rattle.op.specs.declared.After.the-variants as A
@@ -143,7 +143,7 @@ is-in : (o : ℕ) (xs : List ℕ) → T (isIn o xs) → List·Memᴰ o xs
 is-in o [] t = absurd t
 is-in o (x ∷ xs) t = one (eqb o x) refl (is-in o xs) t
   where
-    one : (b : Bool) → eqb o x ≡ b → (T (isIn o xs) → List·Memᴰ o xs) → T (cond b true (isIn o xs)) → List·Memᴰ o (x ∷ xs)
+    one : (b : Bool) → eqb o x ≡ b → (T (isIn o xs) → List·Memᴰ o xs) → T (b || isIn o xs) → List·Memᴰ o (x ∷ xs)
     one true e later t = List·Memᴰ·head (eqb→eq o x (subst T (sym e) tt))
     one false e later t = List·Memᴰ·tail (later t)
 

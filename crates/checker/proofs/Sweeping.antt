@@ -1,7 +1,7 @@
 -- What one instruction, a sweep and all sweeps show.
 -- Assumes nothing.
 use mathlib.Core.Path.{_≡_, refl, sym, ap, subst, _∙_}
-use mathlib.Core.Bool.{Bool, true, false}
+use mathlib.Core.Bool.{true, false, true≢false, false≢true}
 use mathlib.Core.List.{List}
 use mathlib.Core.Logic.{_⊎_, ⊎-elim}
 use mathlib.Core.Option.{some}
@@ -11,6 +11,7 @@ use native.Mathlib.Nat.{not-suc-le-zero}
 use denote.Enum.Declared.{tagOf}
 use lib.ListN.{length, drop, getD}
 use borrow.Author.Count.{below-more}
+use Rattle.base.proofs.Lists.{getD-any}
 use Rattle.code.proofs.Flowing.{the-type}
 use Rattle.code.specs.declared.Flow.{Flow}
 use Rattle.code.specs.declared.Flowing.{Flowing}
@@ -20,14 +21,8 @@ use Rattle.code.specs.Depths.{Stands, Kept, Falls, Derived}
 use Rattle.code.proofs.Places.{stands-one, stands-size}
 use Rattle.checker.specs.Cells.{depthIn, held}
 use Rattle.checker.specs.Inner.{Sound, Stepped, Follows, KeptAt, Fell, Jumped, Relaxed, Swept, Settled}
-use Rattle.checker.proofs.Holding.{in-depth, depth-in, depth-same, getD-any, held-le}
+use Rattle.checker.proofs.Holding.{in-depth, depth-in, depth-same, held-le}
 use Rattle.checker.proofs.Visiting.{still, nothing, stuck}
-
-pub tf : _≡_ {A = Bool} true false → ⊥
-tf z = let y : _≡_ {A = ℕ} 0 1 = cc in omega arith
-
-pub ft : _≡_ {A = Bool} false true → ⊥
-ft z = let y : _≡_ {A = ℕ} 0 1 = cc in omega arith
 
 -- what is no instruction, by its tag
 pub not-op : (x : Flowing) (f : Flow) → (tagOf the-type x ≡ 1) ⊎ (tagOf the-type x ≡ 2) → x ≡ F.Op f → ⊥
@@ -179,9 +174,9 @@ module _ {last : ℕ} {s c c₁ c₂ : List ℕ} {n r : ℕ} (A : Going last s c
   pub settled-no : r ≡ 2 → Settled last s c c₂ false
   settled-no e = record {
     size = B .step .size ∙ A .size;
-    keeps = λ z. absurd (ft z);
-    sound = λ z. absurd (ft z);
-    kept = λ z. absurd (ft z);
+    keeps = λ z. absurd (false≢true z);
+    sound = λ z. absurd (false≢true z);
+    kept = λ z. absurd (false≢true z);
     stuck = λ z st S. B .follows st (A .sound st S) .stuck e;
   }
 
@@ -193,5 +188,5 @@ module _ {last : ℕ} {s c c₁ c₂ : List ℕ} {n r : ℕ} (A : Going last s c
         keeps = λ z. G .keeps;
         sound = λ z. G .sound;
         kept = λ z o f d h w. B .kept e o (let i = stands-size w in omega arith) f d h w;
-        stuck = λ z. absurd (tf z);
+        stuck = λ z. absurd (true≢false z);
       }

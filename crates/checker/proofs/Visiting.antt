@@ -1,12 +1,14 @@
 -- What a visit of one cell shows, and what one instruction asks of the cells it goes to. One law for each return of the code.
 -- Assumes nothing.
 use mathlib.Core.Path.{_≡_, refl, sym, ap, subst, _∙_}
-use mathlib.Core.Bool.{Bool, true, false}
+use mathlib.Core.Bool.{true, false}
 use mathlib.Core.List.{List}
 use mathlib.Core.Option.{some}
 use Prim.Native.Nat.{ℕ, _+_, _≤_, _<_}
 use native.Mathlib.Omega.{arith}
 use lib.ListN.{length, getD, set, length-set, List·getD-eq-default}
+use Rattle.base.proofs.Lists.{getD-any}
+use Rattle.base.proofs.Bools.{not-both}
 use Rattle.code.specs.declared.Change.{Change}
 use Rattle.code.specs.declared.Flow.{Flow}
 use Rattle.code.specs.declared.Goal.the-variants.{Nowhere, To, Outside}
@@ -14,7 +16,7 @@ use Rattle.code.specs.Depths.{Place, Impossible, Derived, fall, jump}
 use Rattle.code.proofs.Assigning.{derived-in, leads, leads-is, clash-net, clash-outside, clash-taken}
 use Rattle.checker.specs.Cells.{cell}
 use Rattle.checker.specs.Inner.{Sound, Stepped, Follows, Touched, Ahead, Landed, Visited, Arrived, Fell, Jumped}
-use Rattle.checker.proofs.Holding.{depth-in, in-depth, cell-set, cell-set-same, cell-set-other, cell-in, getD-any, held-set}
+use Rattle.checker.proofs.Holding.{depth-in, in-depth, cell-set, cell-set-same, cell-set-other, cell-in, held-set}
 
 -- changes
 
@@ -158,9 +160,6 @@ module _ (c c′ : List ℕ) (at o d : ℕ) (change : Change) (r : ℕ) (W : Arr
 
 -- falling through
 
-no-both : {b : Bool} → b ≡ true → b ≡ false → ⊥
-no-both p q = let z : _≡_ {A = ℕ} 0 1 = cc in omega arith
-
 module _ (f : Flow) (c : List ℕ) (at d : ℕ) where
   pub fell-on : (c′ : List ℕ) (r : ℕ) → f .falls ≡ true → Arrived c c′ (at + f .size) d (f .net) r → Touched c c′ (at + f .size) r → Fell f c c′ at d r
   fell-on c′ r fl W U = record {
@@ -183,7 +182,7 @@ module _ (f : Flow) (c : List ℕ) (at d : ℕ) where
     fell-stop g fl = record {
       step = still c 0 (omega arith) (λ z. omega arith);
       follows = λ last s st S D h. nothing S;
-      net = λ z. record { depth = t; leads = L .leads g; has = λ y. absurd (no-both y fl) };
+      net = λ z. record { depth = t; leads = L .leads g; has = λ y. absurd (not-both y fl) };
       touch = untouched c (at + f .size) 0 (λ z. omega arith);
     }
 

@@ -1,7 +1,7 @@
 -- What the walks over the code, the marks and the starts show.
 -- Assumes nothing.
 use mathlib.Core.Path.{_≡_, refl, sym, ap, subst, _∙_}
-use mathlib.Core.Bool.{true, false}
+use mathlib.Core.Bool.{true, false, true≢false, false≢true}
 use mathlib.Core.List.{List}
 use mathlib.Core.Logic.{_⊎_, ⊎-elim, inl, inr}
 use mathlib.Core.Option.{some}
@@ -11,6 +11,7 @@ use native.Mathlib.Decide.{decLt}
 use native.Mathlib.Nat.{not-suc-le-zero}
 use lib.ListN.{length, drop, getD, set, length-set}
 use borrow.Author.Count.{below-more}
+use Rattle.base.proofs.Bools.{clash}
 use Rattle.op.specs.declared.Operand.{Operand}
 use Rattle.op.specs.declared.Refusal.{Refusal}
 use Rattle.code.specs.declared.Flow.{Flow}
@@ -22,12 +23,11 @@ use Rattle.code.specs.Decode.{decode}
 use Rattle.code.specs.Flow.{flowBy, flowOf}
 use Rattle.code.specs.Depths.{Stands, Place, Derived, start}
 use Rattle.code.proofs.Flows.{flow-op, flow-end, flow-refused}
-use Rattle.code.proofs.Places.{stands-size, stands-no-fault, ends-over, first, next, place-le, gap, between, faulty-at, whole-at}
+use Rattle.code.proofs.Places.{stands-size, stands-no-fault, ends-over, place-first, place-next, place-le, gap, between, faulty-at, whole-at}
 use Rattle.checker.specs.Cells.{cell, depthIn}
 use Rattle.checker.specs.Promise.{Listed}
 use Rattle.checker.specs.Inner.{Sound, Visited, Sized, stopOf, NoFault, Walked, Marked, Placed}
 use Rattle.checker.proofs.Holding.{cell-set, cell-set-same, cell-set-other, in-depth}
-use Rattle.checker.proofs.Sweeping.{ft, tf}
 
 -- sizes
 
@@ -39,7 +39,7 @@ module _ {last : ℕ} {s : List ℕ} {at : ℕ} where
   sized k o z e = stands-sized {f = flowBy (at + z) (length s) k o z} (record { is = sym (flow-op last at s k o z e) })
 
   pub sized-end : decode last at (drop at s) ≡ End → Sized last s at 0
-  sized-end e = record { stands = λ n. absurd (n refl); none = λ y f h. (let i = flow-end last at s e in let j = h .is in let z : _≡_ {A = ℕ} 0 1 = cc in omega arith) }
+  sized-end e = record { stands = λ n. absurd (n refl); none = λ y f h. (let i = flow-end last at s e in let j = h .is in clash cc) }
 
   pub sized-fault : (q : Refusal) → decode last at (drop at s) ≡ Refused q → Sized last s at 0
   sized-fault q e = record { stands = λ n. absurd (n refl); none = λ y f h. stands-no-fault h (sym (flow-refused last at s q e)) }
@@ -49,7 +49,7 @@ module _ {last : ℕ} {s : List ℕ} {at : ℕ} where
     sized-in = let g = Z .stands n in let e = g .1 .1 in let h = stands-size (g .1 .0) in (omega arith, omega arith)
 
     next-place : Place last s at → Place last s (at + z)
-    next-place p = let g = Z .stands n in next p (g .1 .0) (ap (λ (x : ℕ). at + x) (g .1 .1))
+    next-place p = let g = Z .stands n in place-next p (g .1 .0) (ap (λ (x : ℕ). at + x) (g .1 .1))
 
     -- a place before the next one is at or before this
     next-after : Place last s at → (o : ℕ) → Place last s o → o < at + z → (o < at) ⊎ (o ≡ at)
@@ -62,7 +62,7 @@ pub record Walking (last : ℕ) (s : List ℕ) (at : ℕ) : Type 0 where
   pub inside : at ≤ length s
 
 pub walking-none : {last : ℕ} (s : List ℕ) → Walking last s 0
-walking-none s = record { here = first; inside = omega arith }
+walking-none s = record { here = place-first; inside = omega arith }
 
 pub walking-on : {last : ℕ} {s : List ℕ} {at z : ℕ} → Walking last s at → Sized last s at z → (z ≡ 0 → ⊥)
     → Walking last s (at + z)
@@ -86,7 +86,7 @@ pub record Seeking (last : ℕ) (s : List ℕ) (o at : ℕ) : Type 0 where
   pub ahead : Place last s o → at ≤ o
 
 pub seeking-none : {last : ℕ} (s : List ℕ) (o : ℕ) → Seeking last s o 0
-seeking-none s o = record { here = first; ahead = λ p. omega arith }
+seeking-none s o = record { here = place-first; ahead = λ p. omega arith }
 
 pub seeking-on : {last : ℕ} {s : List ℕ} {o at z : ℕ} → Seeking last s o at → at < o → Sized last s at z → (z ≡ 0 → ⊥)
     → Seeking last s o (at + z)
@@ -125,7 +125,7 @@ pub record Marking (last : ℕ) (s c₀ c : List ℕ) (at : ℕ) : Type 0 where
   pub only : (o : ℕ) → (cell c o ≡ 65536) ⊎ ((cell c o ≡ 65537) × Place last s o)
 
 pub marking-none : {last : ℕ} {s c : List ℕ} → ((o : ℕ) → cell c o ≡ 65536) → Marking last s c c 0
-marking-none h = record { size = refl; here = first; inside = omega arith; place = λ o p l. absurd (not-suc-le-zero l); only = λ o. inl (h o) }
+marking-none h = record { size = refl; here = place-first; inside = omega arith; place = λ o p l. absurd (not-suc-le-zero l); only = λ o. inl (h o) }
 
 module _ {last : ℕ} {s c₀ c : List ℕ} {at : ℕ} (A : Marking last s c₀ c at) (lc : at < length c) where
   put-only : (o : ℕ) → (cell (set c at 65537) o ≡ 65536) ⊎ ((cell (set c at 65537) o ≡ 65537) × Place last s o)
@@ -186,8 +186,8 @@ module _ {st c₀ c c₁ : List ℕ} {k r o d : ℕ} (A : Placing st c₀ c k) (
   pub placed-no : r ≡ 2 → Placed st c₀ c₁ false
   placed-no e = record {
     size = B .step .size ∙ A .size;
-    has = λ z. absurd (ft z);
-    sound = λ z. absurd (ft z);
+    has = λ z. absurd (false≢true z);
+    sound = λ z. absurd (false≢true z);
     stuck = λ z last s S. B .follows last s st (A .sound last s S) (from-start last s) .stuck e;
   }
 
@@ -196,5 +196,5 @@ placed-yes {st} {c₀} {c} {k} A l = record {
   size = A .size;
   has = λ z o d b. sym (ap (depthIn c) (b .offset)) ∙ A .has (b .row) (let h = b .inside in omega arith) ∙ ap some (b .depth);
   sound = λ z. A .sound;
-  stuck = λ z. absurd (tf z);
+  stuck = λ z. absurd (true≢false z);
 }

@@ -8,13 +8,14 @@ use Prim.Native.Nat.{ℕ, _+_, _-_, _≤_}
 use native.Mathlib.Omega.{arith}
 use lib.Dec.{leb}
 use borrow.Author.Tests.{le-leb, leb-true}
+use Rattle.base.proofs.Bools.{clash}
 use Rattle.op.specs.Depths.{deepest, landing}
 use Rattle.op.specs.declared.After.{After}
 use Rattle.op.specs.declared.After.the-variants as A
 use Rattle.code.specs.declared.Change.{Change}
 use Rattle.code.specs.declared.Flow.{Flow}
 use Rattle.code.specs.declared.Goal.the-variants.{Nowhere, To, Outside}
-use Rattle.code.specs.Depths.{Stands, Place, Leads, Assigns, Smallest, Impossible, Derived, start, fall, jump}
+use Rattle.code.specs.Depths.{Stands, Leads, Assigns, Smallest, Impossible, Derived, start, fall, jump}
 
 -- a change's lead, in numbers
 
@@ -27,7 +28,7 @@ under true x y e h n = (refl, h)
 under false x y e h n = absurd (n h)
 
 no-depth : {r : _} {e : ℕ} → A.Refused r ≡ A.Depth e → ⊥
-no-depth {r} {e} h = let z : _≡_ {A = ℕ} 0 1 = cc in omega arith
+no-depth {r} {e} h = clash cc
 
 pub leads-is : (d : ℕ) (c : Change) (e : ℕ) → Leads d c e → (e + c .down ≡ d + c .up) × (e ≤ 65535)
 unfolding landing
@@ -63,7 +64,7 @@ module _ {last : ℕ} {s st : List ℕ} {a : ℕ → Option ℕ} (A : Assigns la
       subst (λ (x : ℕ). a x ≡ some e) y (K .has ∙ ap some z)
     where
       no-way : f .goal ≡ Nowhere → f .goal ≡ To q → ⊥
-      no-way n m = let z : _≡_ {A = ℕ} 0 1 = cc in omega arith
+      no-way n m = clash cc
 
       same-target : {t : ℕ} → f .goal ≡ To t → f .goal ≡ To q → t ≡ q
       same-target {t} n m = cc
@@ -86,10 +87,6 @@ smallest-agree {a} {b} A B o = agree (a o) (b o) (A .least b (B .assigns) o) (B 
 -- why no assignment exists
 
 module _ {last : ℕ} {s st : List ℕ} {o d : ℕ} (D : Derived last s st o d) where
-  -- a derived depth that is no place's, or is out of range
-  pub clash-place : (Place last s o → ⊥) → Impossible last s st
-  clash-place n a A = n (A .places o d (derived-in A D) .0)
-
   -- two derived depths at one place
   pub clash-depths : {e : ℕ} → Derived last s st o e → (d ≡ e → ⊥) → Impossible last s st
   clash-depths {e} E n a A = n (some-one (derived-in A D) (derived-in A E))
@@ -107,14 +104,14 @@ module _ {last : ℕ} {s st : List ℕ} {o d : ℕ} (D : Derived last s st o d) 
     clash-outside g a A = let K = A .kept o d f (derived-in A D) h .jumps no-way in out (K .goes)
       where
         no-way : f .goal ≡ Nowhere → ⊥
-        no-way n = let z : _≡_ {A = ℕ} 0 1 = cc in omega arith
+        no-way n = clash cc
 
         out : {t : ℕ} → f .goal ≡ To t → ⊥
-        out {t} m = let z : _≡_ {A = ℕ} 0 1 = cc in omega arith
+        out {t} m = clash cc
 
     -- a taken depth out of range
     pub clash-taken : {t : ℕ} → f .goal ≡ To t → ((e : ℕ) → Leads d (f .taken) e → ⊥) → Impossible last s st
     clash-taken {t} g n a A = let K = A .kept o d f (derived-in A D) h .jumps no-way in n (K .depth) (K .leads)
       where
         no-way : f .goal ≡ Nowhere → ⊥
-        no-way m = let z : _≡_ {A = ℕ} 0 1 = cc in omega arith
+        no-way m = clash cc

@@ -16,7 +16,8 @@ use Rattle.code.specs.declared.Count.{Count}
 use Rattle.code.specs.declared.Step.{Step}
 use Rattle.code.specs.declared.Step.the-variants.{Instr, End, Refused}
 use Rattle.code.specs.Decode.{decode}
-use Rattle.code.specs.Reading.{Read, stopsAt, countBy, countOf, stopped}
+use Rattle.code.specs.Reading.{Read, stopsAt, countBy, countOf}
+use Rattle.code.specs.Inner.{stopped}
 use Rattle.code.proofs.Decoding.{decoded-ends}
 use Rattle.code.proofs.Instructions.{readFrom, reads-on, reads-end, reads-fault}
 use Rattle.code.proofs.Step.{the-type}

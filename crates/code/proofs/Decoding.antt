@@ -3,13 +3,13 @@
 use mathlib.Core.Path.{_≡_, refl, sym, ap, _∙_}
 use mathlib.Core.Bool.{Bool, true, false, cond}
 use mathlib.Core.List.{List, [], _∷_}
-use mathlib.Core.Logic.{_⊎_, inl, inr}
 use Prim.Native.Nat.{ℕ, _+_, _-_, _*_, _<_, _≤_}
 use native.Mathlib.Omega.{arith}
 use lib.Dec.{leb}
 use lib.ListN.{length, getD, take, drop, length-drop, drop-of-length-le}
 use lib.Seq.{drop-drop}
 use borrow.Author.Tests.{leb-true, le-leb, lt-leb}
+use Rattle.base.proofs.Bools.{clash}
 use Rattle.op.specs.Opcodes.{lastOpcode, known}
 use Rattle.op.specs.Shapes.{shapeOf, operandShape, sizeOf}
 use Rattle.op.specs.declared.Operand.{Operand}
@@ -20,14 +20,14 @@ use Rattle.op.specs.declared.Shaped.{Shaped}
 use Rattle.op.specs.declared.Shaped.the-variants as P
 use Rattle.code.specs.declared.Step.{Step}
 use Rattle.code.specs.declared.Step.the-variants.{Instr, End, Refused}
-use Rattle.code.specs.Decode.{operandIn, namesIn, sizeIn, stepIn, whole, shapeUpTo, decode, namesBy, namesAt}
+use Rattle.code.specs.Decode.{operandIn, namesIn, sizeByNames, stepIn, whole, shapeUpTo, decode, namesBy, namesAt}
 use Rattle.code.proofs.Sizes.{shape-in, size-by-names, fixed-part}
 
 -- shapes under a table
 
 chosen : (b : Bool) (p : Shaped) (r : Refusal) (s : Shape) → cond b p (P.Refused r) ≡ P.Is s → (b ≡ true) × (p ≡ P.Is s)
 chosen true p r s e = (refl, e)
-chosen false p r s e = absurd (let z : _≡_ {A = ℕ} 0 1 = cc in omega arith)
+chosen false p r s e = clash cc
 
 -- an opcode that has a shape is at most the last
 pub shape-below : (last k : ℕ) (s : Shape) → shapeUpTo last k ≡ P.Is s → (k ≤ last) × (shapeOf k ≡ P.Is s)
@@ -53,14 +53,14 @@ shape-known k s e = shape-below lastOpcode k s (shape-last k ∙ e) .0
 
 -- an instruction of a shape
 
-module _ (at : ℕ) (s : Shape) (u : List ℕ) (z : ℕ) (ez : z ≡ sizeIn s u) where
+module _ (at : ℕ) (s : Shape) (u : List ℕ) (z : ℕ) (ez : z ≡ sizeByNames s u) where
   pub step-cut : length u < z → Refused (CutShort at) ≡ stepIn at s u
   unfolding stepIn
-  step-cut l = rw (lt-leb (sizeIn s u) (length u) (omega (arith, ez)))
+  step-cut l = rw (lt-leb (sizeByNames s u) (length u) (omega (arith, ez)))
 
   pub step-instr : (o : Operand) → o ≡ operandIn s u → z ≤ length u → Instr (getD u 0 0) o z ≡ stepIn at s u
   unfolding stepIn
-  step-instr o eo l = rw (eo, ez, le-leb (sizeIn s u) (length u) (omega (arith, ez)))
+  step-instr o eo l = rw (eo, ez, le-leb (sizeByNames s u) (length u) (omega (arith, ez)))
 
 -- the cases of the code, at bytes that are there
 
@@ -103,16 +103,16 @@ decode-whole last at k t s o l e eo h = rw (below-shape last k l, e, eo, le-leb 
 -- what it says that they decode
 
 no-fault : {k : ℕ} {o : Operand} {z : ℕ} {r : Refusal} → Refused r ≡ Instr k o z → ⊥
-no-fault q = let x : _≡_ {A = ℕ} 0 1 = cc in omega arith
+no-fault q = clash cc
 
 module _ (last : ℕ) (u : List ℕ) (k : ℕ) (s : Shape) (l : k ≤ last) (e : shapeOf k ≡ P.Is s) (ek : k ≡ getD u 0 0)
-    (h : sizeIn s u ≤ length u) where
-  read : Decoded last u k (operandIn s u) (sizeIn s u)
+    (h : sizeByNames s u ≤ length u) where
+  read : Decoded last u k (operandIn s u) (sizeByNames s u)
   read =
       let o = operandIn s u in
       let es : s ≡ operandShape o = sym (shape-in s u) in
-      let ez : sizeIn s u ≡ sizeOf (operandShape o) (namesIn o) = ap (λ (x : Shape). sizeOf x (namesIn o)) es in
-      let eb : sizeIn s u ≡ sizeOf (operandShape o) 0 + 2 * namesIn o = ez ∙ size-by-names o in
+      let ez : sizeByNames s u ≡ sizeOf (operandShape o) (namesIn o) = ap (λ (x : Shape). sizeOf x (namesIn o)) es in
+      let eb : sizeByNames s u ≡ sizeOf (operandShape o) 0 + 2 * namesIn o = ez ∙ size-by-names o in
       record {
         opcode = ek;
         known = l;
@@ -130,19 +130,19 @@ module _ (last at k′ : ℕ) (t : List ℕ) (k : ℕ) (o : Operand) (z : ℕ) w
   by-shape (P.Refused r) ep e = absurd (no-fault e)
   by-shape (P.Is s) ep e =
       let u : List ℕ = k′ ∷ t in
-      let f = picked (leb (sizeIn s u) (length u)) (Instr k′ (operandIn s u) (sizeIn s u)) (Refused (CutShort at)) (Instr k o z) e no-fault in
-      let i : Instr k′ (operandIn s u) (sizeIn s u) ≡ Instr k o z = f .1 in
+      let f = picked (leb (sizeByNames s u) (length u)) (Instr k′ (operandIn s u) (sizeByNames s u)) (Refused (CutShort at)) (Instr k o z) e no-fault in
+      let i : Instr k′ (operandIn s u) (sizeByNames s u) ≡ Instr k o z = f .1 in
       let ek : k ≡ k′ = cc in
       let eo : o ≡ operandIn s u = cc in
-      let ez : z ≡ sizeIn s u = cc in
+      let ez : z ≡ sizeByNames s u = cc in
       let b = shape-below last k′ s ep in
-      rw (ek, eo, ez) (read last u k′ s (b .0) (b .1) refl (leb-true (sizeIn s u) (length u) (f .0)))
+      rw (ek, eo, ez) (read last u k′ s (b .0) (b .1) refl (leb-true (sizeByNames s u) (length u) (f .0)))
 
 -- an instruction that decodes is there
 pub decoded : (last at : ℕ) (u : List ℕ) (k : ℕ) (o : Operand) (z : ℕ) → decode last at u ≡ Instr k o z
     → Decoded last u k o z
 unfolding decode
-decoded last at [] k o z e = let x : _≡_ {A = ℕ} 0 1 = cc in absurd (omega arith)
+decoded last at [] k o z e = clash cc
 decoded last at (k′ ∷ t) k o z e = by-shape last at k′ t k o z (shapeUpTo last k′) refl e
 
 -- the other way: `Decoded` says all of it
@@ -196,29 +196,12 @@ unfolding stepIn
 not-ended at k t (P.Refused r) e = cc
 not-ended at k t (P.Is s) e =
     let u : List ℕ = k ∷ t in
-    no-end (leb (sizeIn s u) (length u)) k (operandIn s u) (sizeIn s u) (CutShort at) (length u) e
+    no-end (leb (sizeByNames s u) (length u)) k (operandIn s u) (sizeByNames s u) (CutShort at) (length u) e
 
 pub decode-end : (last at : ℕ) (u : List ℕ) → decode last at u ≡ End → length u ≡ 0
 unfolding decode
 decode-end last at [] e = refl
 decode-end last at (k ∷ t) e = not-ended at k t (shapeUpTo last k) e
-
--- a fault is 1 or 22, at that offset
-fault-of : (b : Bool) (k : ℕ) (o : Operand) (z : ℕ) (r′ r : Refusal) → cond b (Instr k o z) (Refused r′) ≡ Refused r → r ≡ r′
-fault-of true k o z r′ r e = let x : _≡_ {A = ℕ} 0 1 = cc in absurd (omega arith)
-fault-of false k o z r′ r e = cc
-
-fault-by : (at : ℕ) (u : List ℕ) (p : Shaped) (r : Refusal) → whole at p u ≡ Refused r
-    → (r ≡ UnknownOpcodeAt at) ⊎ (r ≡ CutShort at)
-unfolding stepIn
-fault-by at u (P.Refused x) r e = inl cc
-fault-by at u (P.Is s) r e = inr (fault-of (leb (sizeIn s u) (length u)) (getD u 0 0) (operandIn s u) (sizeIn s u) (CutShort at) r e)
-
-pub decode-fault : (last at : ℕ) (u : List ℕ) (r : Refusal) → decode last at u ≡ Refused r
-    → (r ≡ UnknownOpcodeAt at) ⊎ (r ≡ CutShort at)
-unfolding decode
-decode-fault last at [] r e = let x : _≡_ {A = ℕ} 0 1 = cc in absurd (omega arith)
-decode-fault last at (k ∷ t) r e = fault-by at (k ∷ t) (shapeUpTo last k) r e
 
 -- the names' bytes are the last of the instruction
 pub names-part : (last : ℕ) (u : List ℕ) (k : ℕ) (o : Operand) (z : ℕ) → Decoded last u k o z
@@ -237,7 +220,7 @@ same-names false k o z r r′ u = refl
 names-by-shape : (at : ℕ) (u : List ℕ) (p : Shaped) → namesBy (whole 0 p u) u ≡ namesBy (whole at p u) u
 unfolding stepIn
 names-by-shape at u (P.Refused r) = refl
-names-by-shape at u (P.Is s) = same-names (leb (sizeIn s u) (length u)) (getD u 0 0) (operandIn s u) (sizeIn s u) (CutShort 0) (CutShort at) u
+names-by-shape at u (P.Is s) = same-names (leb (sizeByNames s u) (length u)) (getD u 0 0) (operandIn s u) (sizeByNames s u) (CutShort 0) (CutShort at) u
 
 pub names-anywhere : (last at : ℕ) (u : List ℕ) → namesAt last u ≡ namesBy (decode last at u) u
 unfolding namesAt decode

@@ -1,6 +1,6 @@
 -- Laws of `flowOf`: a law for each case of the code, and what callers need of an instruction that flows on.
 -- Assumes nothing.
-use mathlib.Core.Path.{_≡_, refl, sym, ap, subst, _∙_}
+use mathlib.Core.Path.{_≡_, refl, sym, ap, _∙_}
 use mathlib.Core.Bool.{Bool, true, false, cond, not}
 use mathlib.Core.List.{List}
 use Prim.Native.Nat.{ℕ, suc, _+_, _-_, _<_, _≤_}
@@ -9,11 +9,12 @@ use lib.Dec.{T, ltb, leb, eqb}
 use lib.IntN.{ℤ, pos, negsuc, subℕ}
 use lib.ListN.{length, drop, length-drop}
 use lib.Signed.{mag}
-use borrow.Author.Tests.{le-leb, lt-leb, leb-true, ltb-true, ltb-false}
+use borrow.Author.Tests.{le-leb, lt-leb, ltb-true, ltb-false}
+use Rattle.base.proofs.Bools.{clash}
 use Rattle.op.specs.Opcodes.{Rule, minus3, minus2, minus1, same, plus1, plus2, minus-n, one-minus-n, one-minus-2n, n-minus-one, both, minus-both, one-minus-both, extended, format, assert, assert-failed, match-keys}
 use Rattle.op.specs.Opcodes.{table, known, rowOf}
 use Rattle.op.specs.Shapes.{shapeNumber, shapeIn, shapeOf, operandShape, sizeOf}
-use Rattle.op.specs.Effects.{ruleIn, formerOf, lastOf, effectBy, effectOf, takenOf, Small}
+use Rattle.op.specs.Effects.{ruleIn, formerOf, lastOf, effectBy, effectOf, takenOf}
 use Rattle.op.specs.declared.Effect.{Effect}
 use Rattle.op.specs.declared.Effect.the-variants as E
 use Rattle.op.specs.declared.Operand.{Operand}
@@ -22,9 +23,8 @@ use Rattle.op.specs.declared.Refusal.{Refusal}
 use Rattle.op.specs.declared.Shape.{Shape}
 use Rattle.op.specs.declared.Shaped.the-variants as P
 use Rattle.op.proofs.Effected.{shape-is, effect-fits}
-use Rattle.op.proofs.Keys.{in-range}
+use Rattle.base.proofs.Keys.{in-range}
 use Rattle.op.proofs.Listed.{known-row}
-use Rattle.op.proofs.Rules.{rule-small}
 use Rattle.code.specs.declared.Change.{Change}
 use Rattle.code.specs.declared.Flow.{Flow}
 use Rattle.code.specs.declared.Flowing.the-variants as F
@@ -35,7 +35,6 @@ use Rattle.code.specs.Bytes.{unsigned}
 use Rattle.code.specs.Decode.{namesIn, decode}
 use Rattle.code.specs.Flow.{goalBy, goalOf, changeOf, flowBy, flowingBy, flowOf}
 use Rattle.code.proofs.Decoding.{decoded, decoded-ends}
-use Rattle.code.proofs.Ranges.{InRange, operand-small}
 
 -- goals, by the word that stands for the displacement
 
@@ -127,8 +126,8 @@ pub record Flowed (last at : ℕ) (s : List ℕ) (f : Flow) : Type 0 where
 
 flowed-by : (last at : ℕ) (s : List ℕ) (f : Flow) (x : Step) → decode last at (drop at s) ≡ x
     → flowingBy at (at + length (drop at s)) x ≡ F.Op f → Flowed last at s f
-flowed-by last at s f End ex e = let z : _≡_ {A = ℕ} 0 1 = cc in absurd (omega arith)
-flowed-by last at s f (Refused r) ex e = let z : _≡_ {A = ℕ} 0 1 = cc in absurd (omega arith)
+flowed-by last at s f End ex e = clash cc
+flowed-by last at s f (Refused r) ex e = clash cc
 flowed-by last at s f (Instr k o z) ex e =
     let d = decoded last at (drop at s) k o z ex in
     let l : at + length (drop at s) ≡ length s = omega (arith, length-drop at s, d .some, d .fits) in
@@ -148,20 +147,6 @@ flowed-by last at s f (Instr k o z) ex e =
 pub flowed : (last at : ℕ) (s : List ℕ) (f : Flow) → flowOf last at (drop at s) ≡ F.Op f → Flowed last at s f
 unfolding flowOf
 flowed last at s f e = flowed-by last at s f (decode last at (drop at s)) refl e
-
--- a goal in the code is an offset or the end
-chosen : (b : Bool) (x t : ℕ) → cond b (To x) Outside ≡ To t → (b ≡ true) × (x ≡ t)
-chosen true x t e = (refl, cc)
-chosen false x t e = let z : _≡_ {A = ℕ} 0 1 = cc in absurd (omega arith)
-
-pub goal-ends : (next end : ℕ) (z : ℤ) (t : ℕ) → next ≤ end → goalBy next end z ≡ To t → t ≤ end
-unfolding goalBy
-goal-ends next end (pos n) t h e =
-    let c = chosen (leb (next + n) end) (next + n) t e in
-    omega (arith, c .1, leb-true (next + n) end (c .0))
-goal-ends next end (negsuc n) t h e =
-    let c = chosen (leb (suc n) next) (next - suc n) t e in
-    omega (arith, c .1)
 
 -- an effect's change is the effect, where it is not refused
 abbrev pub ofChange : Change → Effect
@@ -206,13 +191,6 @@ module _ (k : ℕ) (o : Operand) (e : shapeOf k ≡ P.Is (operandShape o)) where
   net-is =
       let f = effect-fits k o (operandShape o) e refl in
       change-is (effectOf k o) (ap isBy (sym f) ∙ rule-is-by (ruleIn (rowOf k)) (formerOf o) (lastOf o))
-
-  -- of numbers that are far from the end of a u32
-  pub net-small : InRange o → Small (effectOf k o)
-  net-small h =
-      let f = effect-fits k o (operandShape o) e refl in
-      let b = operand-small o h in
-      subst Small f (rule-small (ruleIn (rowOf k)) (formerOf o) (lastOf o) (b .0) (b .1))
 
 -- the opcodes of the shape Offset are those that jump
 agree : Bool → Bool → Bool

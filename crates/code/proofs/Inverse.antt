@@ -2,27 +2,28 @@
 -- Assumes nothing.
 use mathlib.Core.Path.{_≡_, refl, sym, ap, _∙_}
 use mathlib.Core.List.{List, [], _∷_, _++_, append-assoc}
-use Prim.Native.Nat.{ℕ, zero, suc, _+_, _-_, _*_, _/_, _%_, _<_, _≤_}
+use Prim.Native.Nat.{ℕ, zero, suc, _+_, _*_, _/_, _%_, _<_, _≤_}
 use native.Mathlib.Omega.{arith}
 use native.Mathlib.Nat.{not-suc-le-zero, le-of-suc-le-suc}
 use lib.ListN.{length, getD, take, drop, length-append, length-drop}
 use lib.Seq.{take-add, take-at, drop-at, getD-drop, length-take-le}
-use lib.Signed.{mag}
 use mir.Syntax.{w8, w16}
-use Rattle.op.specs.Shapes.{shapeOf, operandShape, sizeOf}
+use Rattle.base.proofs.Lists.{take-below}
+use Rattle.op.specs.Shapes.{operandShape, sizeOf}
 use Rattle.op.specs.declared.Operand.{Operand}
 use Rattle.op.specs.declared.Operand.the-variants as O
 use Rattle.op.specs.declared.Shape.{Shape}
 use Rattle.op.specs.declared.Shape.the-variants as S
-use Rattle.op.specs.declared.Shaped.the-variants as P
 use Rattle.code.specs.declared.Step.the-variants.{Instr}
 use Rattle.code.specs.Bytes.{wordAt, namesBytes, wordsIn, signed, unsigned}
 use Rattle.code.specs.Decode.{operandIn, namesIn, decode, namesAt}
 use Rattle.code.specs.Encode.{operandBytes, encode, SignsFit, Formed}
+use Rattle.code.specs.Reading.{Instruction, before, instructionsFrom}
 use Rattle.code.proofs.Twos.{signed-unsigned, unsigned-signed}
 use Rattle.code.proofs.Decoding.{Decoded, decoded, decode-whole, names-part}
 use Rattle.code.proofs.Ranges.{word-small}
 use Rattle.code.proofs.Sizes.{size-by-names}
+use Rattle.code.proofs.Instructions.{instructions-step}
 
 -- lengths
 
@@ -128,12 +129,6 @@ take-reads zero u h = refl
 take-reads (suc n) [] h = absurd (not-suc-le-zero h)
 take-reads (suc n) (a ∷ u) h = ap (λ (t : List ℕ). a ∷ t) (take-reads n u (le-of-suc-le-suc h) ∙ sym (reads-cons n 0 a u))
 
-take-below : (n : ℕ) (l : List ℕ) → ((i : ℕ) → getD l i 0 < 256) → (i : ℕ) → getD (take n l) i 0 < 256
-take-below zero l h i = omega arith
-take-below (suc n) [] h i = omega arith
-take-below (suc n) (a ∷ l) h zero = h 0
-take-below (suc n) (a ∷ l) h (suc i) = take-below n l (λ (j : ℕ). h (suc j)) i
-
 module _ (u : List ℕ) (bytes : (i : ℕ) → getD u i 0 < 256) where
   low : (i : ℕ) → wordAt u i % 256 ≡ getD u i 0
   low i = omega (arith, bytes i, bytes (i + 1))
@@ -173,3 +168,16 @@ module _ (u : List ℕ) (bytes : (i : ℕ) → getD u i 0 < 256) where
         let small : ((i : ℕ) → getD x i 0 < 256) = take-below (2 * n) (drop b u) (λ (i : ℕ). rw getD-drop (bytes (b + i))) in
         let e : namesBytes (wordsIn (namesAt last u)) ≡ x = ap (λ (y : List ℕ). namesBytes (wordsIn y)) (names-part last u k o z d) ∙ names-words n x l small in
         ap (λ (y : List ℕ). k ∷ (operandBytes o ++ y)) e ∙ ap (λ (y : List ℕ). y ++ x) fixed ∙ sym (take-add b (2 * n) u) ∙ ap (λ (i : ℕ). take i u) (sym (d .base))
+
+-- a well formed instruction's bytes are read as it, under each table that has its opcode, whatever follows
+pub reads-encoded : (last at : ℕ) (i : Instruction) (rest : List ℕ) → i .opcode ≤ last
+    → Formed (i .opcode) (i .operand) (i .names)
+    → (let bytes = encode (i .opcode) (i .operand) (i .names) in
+    instructionsFrom last at (bytes ++ rest)
+    ≡ before (record { offset = at; what = i; size = length bytes }) (instructionsFrom last (at + length bytes) rest))
+reads-encoded last at i rest l f =
+    let bytes = encode (i .opcode) (i .operand) (i .names) in
+    let d = decode-encode last (i .opcode) (i .operand) (i .names) rest l f at in
+    let n = names-encode last (i .opcode) (i .operand) (i .names) rest l f in
+    let behind = drop-at bytes rest (length bytes) refl in
+    instructions-step last at (bytes ++ rest) ∙ rw (d, n, words-names (i .names), behind)

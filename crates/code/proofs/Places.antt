@@ -8,6 +8,7 @@ use Prim.Native.Nat.{ℕ, _+_, _≤_, _<_}
 use native.Mathlib.Omega.{arith}
 use native.Mathlib.Decide.{decLt}
 use lib.ListN.{length, drop, length-drop}
+use Rattle.base.proofs.Bools.{clash}
 use Rattle.op.specs.declared.Operand.{Operand}
 use Rattle.op.specs.declared.Refusal.{Refusal}
 use Rattle.code.specs.declared.Flow.{Flow}
@@ -46,9 +47,9 @@ stands-longer {last} {last′} {s} {o} {f} l e =
 
 end-by : (last at : ℕ) (s : List ℕ) (x : Step) → decode last at (drop at s) ≡ x
     → flowingBy at (at + length (drop at s)) x ≡ F.End → length s ≤ at
-end-by last at s (Instr k o z) ex e = let q : _≡_ {A = ℕ} 0 1 = cc in absurd (omega arith)
+end-by last at s (Instr k o z) ex e = clash cc
 end-by last at s End ex e = omega (arith, decode-end last at (drop at s) ex, length-drop at s)
-end-by last at s (Refused r) ex e = let q : _≡_ {A = ℕ} 0 1 = cc in absurd (omega arith)
+end-by last at s (Refused r) ex e = clash cc
 
 pub ends-over : (last : ℕ) (s : List ℕ) (at : ℕ) → flowOf last at (drop at s) ≡ F.End → length s ≤ at
 unfolding flowOf
@@ -58,17 +59,12 @@ pub stands-no-fault : {last : ℕ} {s : List ℕ} {o : ℕ} {f : Flow} {q : Refu
     → flowOf last o (drop o s) ≡ F.Refused q → ⊥
 stands-no-fault {last} {s} {o} {f} {q} e h =
     let x = e .is in
-    let z : _≡_ {A = ℕ} 0 1 = cc in
-    omega arith
-
-pub end-no-fault : (last : ℕ) (s : List ℕ) (o : ℕ) {q : Refusal} → flowOf last o (drop o s) ≡ F.End
-    → flowOf last o (drop o s) ≡ F.Refused q → ⊥
-end-no-fault last s o {q} e h = let z : _≡_ {A = ℕ} 0 1 = cc in omega arith
+    clash cc
 
 fault-by : (last at : ℕ) (s : List ℕ) (q : Refusal) (x : Step) → decode last at (drop at s) ≡ x
     → flowingBy at (at + length (drop at s)) x ≡ F.Refused q → decode last at (drop at s) ≡ Refused q
-fault-by last at s q (Instr k o z) ex e = let x : _≡_ {A = ℕ} 0 1 = cc in absurd (omega arith)
-fault-by last at s q End ex e = let x : _≡_ {A = ℕ} 0 1 = cc in absurd (omega arith)
+fault-by last at s q (Instr k o z) ex e = clash cc
+fault-by last at s q End ex e = clash cc
 fault-by last at s q (Refused r) ex e = let x : r ≡ q = cc in ex ∙ ap Refused x
 
 -- the step of what stands
@@ -83,10 +79,10 @@ module _ {last : ℕ} {s : List ℕ} {at : ℕ} where
   same-size k o z f e h = let g = flowed last at s f (h .is) .step in cc
 
   not-ended : (f : Flow) → decode last at (drop at s) ≡ End → Stands last s at f → ⊥
-  not-ended f e h = let g = flowed last at s f (h .is) .step in let z : _≡_ {A = ℕ} 0 1 = cc in omega arith
+  not-ended f e h = let g = flowed last at s f (h .is) .step in clash cc
 
   not-refused : (r : Refusal) (f : Flow) → decode last at (drop at s) ≡ Refused r → Stands last s at f → ⊥
-  not-refused r f e h = let g = flowed last at s f (h .is) .step in let z : _≡_ {A = ℕ} 0 1 = cc in omega arith
+  not-refused r f e h = let g = flowed last at s f (h .is) .step in clash cc
 
 -- the offsets that reading from one on comes to
 
@@ -145,11 +141,11 @@ module _ (last : ℕ) (s : List ℕ) where
 module _ {last : ℕ} {s : List ℕ} where
   -- places
 
-  pub first : Place last s 0
-  first = record { is = come-here last s 0 }
+  pub place-first : Place last s 0
+  place-first = record { is = come-here last s 0 }
 
-  pub next : {o q : ℕ} {f : Flow} → Place last s o → Stands last s o f → o + f .size ≡ q → Place last s q
-  next {o} {q} {f} p h e = record { is = subst (λ (x : ℕ). Comes x (readFrom last s 0)) e (come-next last s 0 o f (p .is) h) }
+  pub place-next : {o q : ℕ} {f : Flow} → Place last s o → Stands last s o f → o + f .size ≡ q → Place last s q
+  place-next {o} {q} {f} p h e = record { is = subst (λ (x : ℕ). Comes x (readFrom last s 0)) e (come-next last s 0 o f (p .is) h) }
 
   -- what holds at 0, and behind each instruction if at it, holds at all places
   module _ (P : ℕ → Type 0) (none : P 0)
@@ -158,12 +154,12 @@ module _ {last : ℕ} {s : List ℕ} where
     along = read-ind last s (λ at read. Place last s at → P at → (o : ℕ) → Comes o read → P o)
         (λ at k o z e h p here q m. ⊎-elim (λ i. subst P (sym i) here)
         (λ j. (let g = stands-here k o z e in
-        h (next p (g .1 .0) (g .1 .1)) (on at (at + z) (g .0) p here (g .1 .0) (g .1 .1)) q j)) (List·Memᴰ·cases-cons m))
+        h (place-next p (g .1 .0) (g .1 .1)) (on at (at + z) (g .0) p here (g .1 .0) (g .1 .1)) q j)) (List·Memᴰ·cases-cons m))
         (λ at e p here q m. subst P (sym (List·Memᴰ·eq-of-singleton m)) here)
         (λ at r e p here q m. subst P (sym (List·Memᴰ·eq-of-singleton m)) here)
 
     pub place-ind : (o : ℕ) → Place last s o → P o
-    place-ind o p = along 0 first none o (p .is)
+    place-ind o p = along 0 place-first none o (p .is)
 
   pub place-le : {o : ℕ} → Place last s o → o ≤ length s
   place-le {o} p = place-ind (λ (x : ℕ). x ≤ length s) (omega arith) (λ a q f p l h e. omega (arith, stands-size h .1, e)) o p
@@ -196,8 +192,7 @@ module _ {last : ℕ} {s : List ℕ} where
       let n : readFrom last s 0 .fault ≡ none =
       come-fault last s 0 o (p .is) ∙ ap (λ (r : Read). r .fault) (reads-end last s o d) in
       let f = A .is in
-      let z : _≡_ {A = ℕ} 0 1 = cc in
-      omega arith
+      clash cc
 
   pub fault-one : {p q : Refusal} → Faulty last s p → Faulty last s q → p ≡ q
   fault-one {p} {q} A B =
@@ -207,4 +202,4 @@ module _ {last : ℕ} {s : List ℕ} where
 
 -- a place under a table is one under a longer
 pub place-longer : {last last′ : ℕ} {s : List ℕ} {o : ℕ} → last ≤ last′ → Place last s o → Place last′ s o
-place-longer {last} {last′} {s} {o} l p = place-ind (Place last′ s) first (λ a q f p here h e. next here (stands-longer l h) e) o p
+place-longer {last} {last′} {s} {o} l p = place-ind (Place last′ s) place-first (λ a q f p here h e. place-next here (stands-longer l h) e) o p

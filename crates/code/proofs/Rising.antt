@@ -57,11 +57,3 @@ module _ (cells : List ℕ) (x : ℕ) where
   last-one i j a b =
       let above : j < i → ⊥ = λ lt. omega (arith, b .later i lt (a .inside)) in
       omega arith
-
-  pub answer-one : (a b : Located) → AnswersLast cells x a → AnswersLast cells x b → a ≡ b
-  answer-one (Row i r) (Row j s) p q =
-      let same : i ≡ j = omega (arith, last-one i j (p .1) (q .1), last-one j i (q .1) (p .1)) in
-      rw (p .0, q .0, same)
-  answer-one (Row i r) Absent p q = let no : ⊥ = omega (arith, q i (p .1 .inside)) in absurd no
-  answer-one Absent (Row j s) p q = let no : ⊥ = omega (arith, p j (q .1 .inside)) in absurd no
-  answer-one Absent Absent p q = refl

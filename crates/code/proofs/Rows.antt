@@ -6,9 +6,9 @@ use native.Mathlib.Numerals.{add-one}
 use native.Mathlib.Omega.{arith}
 use mathlib.Core.List.{List, _++_}
 use mathlib.Core.Path.{_≡_, ap, _∙_}
-use lib.ListN.{length, getD, drop, length-append, length-drop}
-use lib.Seq.{getD-append-add, getD-drop, getD-take, length-take-le}
-use Rattle.code.specs.Rows.{rowCount, cell, row}
+use lib.ListN.{length, getD, length-append}
+use lib.Seq.{getD-append-add}
+use Rattle.code.specs.Rows.{rowCount, cell}
 
 -- a row that is counted is there whole
 pub row-inside : (w : ℕ) (cells : List ℕ) (i : ℕ) → 0 < w → i < rowCount w cells → i * w + w ≤ length cells
@@ -18,15 +18,6 @@ row-inside w cells i pos lt =
 -- and so is each of its cells
 pub cell-inside : (w : ℕ) (cells : List ℕ) (i k : ℕ) → i < rowCount w cells → k < w → i * w + k < length cells
 cell-inside w cells i k lt kw = omega (arith, row-inside w cells i (omega arith) lt)
-
-pub row-length : (w : ℕ) (cells : List ℕ) (i : ℕ) → 0 < w → i < rowCount w cells → length (row w cells i) ≡ w
-unfolding row
-row-length w cells i pos lt =
-    length-take-le w (drop (i * w) cells) (simp length-drop (omega (arith, row-inside w cells i pos lt)))
-
-pub row-cell : (w : ℕ) (cells : List ℕ) (i k : ℕ) → k < w → getD (row w cells i) k 0 ≡ cell w cells i k
-unfolding row
-row-cell w cells i k kw = rw (getD-take, getD-drop)
 
 -- one row more in front
 pub count-next : (w : ℕ) (front rest : List ℕ) → 0 < w → length front ≡ w → rowCount w (front ++ rest) ≡ suc (rowCount w rest)

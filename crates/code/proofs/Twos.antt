@@ -11,6 +11,7 @@ use lib.Signed.{ltZ, mag}
 use mir.Syntax.{Width}
 use mir.Val.{bits, hbits, SFits, toZ, ofZ}
 use mir.Facts.{toZ-pos, toZ-ofZ, ofZ-toZ, sfits-toZ}
+use Rattle.base.proofs.Bools.{clash}
 use Rattle.code.specs.Bytes.{signed, unsigned}
 
 module _ (w : Width) (m : ℕ) (em : m ≡ 2 ^ bits w) (eh : m / 2 ≡ 2 ^ hbits w) where
@@ -56,5 +57,4 @@ module _ (w : Width) (m : ℕ) (em : m ≡ 2 ^ bits w) (eh : m / 2 ≡ 2 ^ hbits
   kept (pos n) f e = toZ-ofZ {w = w} f
   kept (negsuc k) f e =
       let q : ltZ (negsuc k) (pos 0) ≡ false = rw (toZ-ofZ {w = w} f) at e in
-      let z : _≡_ {A = ℕ} 0 1 = cc in
-      absurd (omega arith)
+      clash cc

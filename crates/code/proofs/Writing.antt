@@ -3,11 +3,12 @@
 use mathlib.Core.Path.{_≡_, refl, sym, ap, _∙_}
 use mathlib.Core.Bool.{Bool, true, false}
 use mathlib.Core.List.{List, [], _∷_, _++_, append-nil}
-use Prim.Native.Nat.{ℕ, _+_, _<_, _≤_}
+use Prim.Native.Nat.{ℕ, _<_, _≤_}
 use native.Mathlib.Omega.{arith}
 use lib.Dec.{leb, eqb}
 use lib.ListN.{length, getD, drop}
 use borrow.Author.Tests.{le-leb, lt-leb, eq-eqb, ne-eqb, leb-true, eqb-true}
+use Rattle.base.proofs.Bools.{clash}
 use Rattle.op.specs.Shapes.{shapeNumber, shapeOf, operandShape, sizeOf}
 use Rattle.op.specs.declared.Operand.{Operand}
 use Rattle.op.specs.declared.Refusal.{Refusal}
@@ -21,9 +22,10 @@ use Rattle.code.specs.declared.Step.the-variants.{Instr}
 use Rattle.code.specs.declared.Written.{Written}
 use Rattle.code.specs.declared.Written.the-variants.{Size, Refused}
 use Rattle.code.specs.Bytes.{namesBytes, front}
-use Rattle.code.specs.Decode.{namesIn, decode, namesAt}
-use Rattle.code.specs.Encode.{operandBytes, encode, unless, writtenBy, writtenOf, filled, Writes, Writable, SignsFit, Formed}
-use Rattle.code.proofs.Inverse.{length-encode, decode-encode, names-encode}
+use Rattle.code.specs.Decode.{namesIn, decode}
+use Rattle.code.specs.Encode.{operandBytes, encode, writtenIf, writtenBy, writtenOf, filled, Writes, SignsFit, Formed}
+use Rattle.code.specs.Inner.{Writable}
+use Rattle.code.proofs.Inverse.{length-encode, decode-encode}
 
 -- a shape's number says which it is
 shape-at : ℕ → Shape
@@ -86,17 +88,17 @@ pub record Goes (k : ℕ) (o : Operand) (n room z : ℕ) : Type 0 where
   pub size : z ≡ sizeOf (operandShape o) n
   pub fits : z ≤ room
 
-passed : (t : Bool) (r : Refusal) (w : Written) (z : ℕ) → unless t r w ≡ Size z → (t ≡ true) × (w ≡ Size z)
+passed : (t : Bool) (r : Refusal) (w : Written) (z : ℕ) → writtenIf t r w ≡ Size z → (t ≡ true) × (w ≡ Size z)
 passed true r w z e = (refl, e)
 passed false r w z e = (cc, cc)
 
 goes-by : (k : ℕ) (o : Operand) (n room z : ℕ) (p : Shaped) → shapeOf k ≡ p → writtenBy p o n room ≡ Size z → Goes k o n room z
-goes-by k o n room z (P.Refused r) ep e = let x : _≡_ {A = ℕ} 0 1 = cc in absurd (omega arith)
+goes-by k o n room z (P.Refused r) ep e = clash cc
 goes-by k o n room z (P.Is s) ep e =
     let w4 : Written = Size (sizeOf s n) in
-    let w3 : Written = unless (leb (sizeOf s n) room) (Full Code) w4 in
-    let w2 : Written = unless (eqb (namesIn o) n) WrongShape w3 in
-    let w1 : Written = unless (eqb (shapeNumber s) (shapeNumber (operandShape o))) WrongShape w2 in
+    let w3 : Written = writtenIf (leb (sizeOf s n) room) (Full Code) w4 in
+    let w2 : Written = writtenIf (eqb (namesIn o) n) WrongShape w3 in
+    let w1 : Written = writtenIf (eqb (shapeNumber s) (shapeNumber (operandShape o))) WrongShape w2 in
     let e1 = passed (leb n 255) TooManyKeywords w1 z e in
     let e2 = passed (eqb (shapeNumber s) (shapeNumber (operandShape o))) WrongShape w2 z (e1 .1) in
     let e3 = passed (eqb (namesIn o) n) WrongShape w3 z (e2 .1) in
@@ -169,6 +171,3 @@ module _ (k : ℕ) (o : Operand) (names out : List ℕ) (answer : Written) (out�
     pub written-decodes : (last : ℕ) → k ≤ last → (at : ℕ) → decode last at out′ ≡ Instr k o z
     written-decodes last l at =
         rw (written-front, written-length) (decode-encode last k o names (drop (length (encode k o names)) out) l formed at)
-
-    pub written-names : (last : ℕ) → k ≤ last → namesAt last out′ ≡ namesBytes names
-    written-names last l = rw written-front (names-encode last k o names (drop (length (encode k o names)) out) l formed)

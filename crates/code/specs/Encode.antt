@@ -3,7 +3,7 @@
 use mathlib.Core.Path.{_≡_}
 use mathlib.Core.Bool.{Bool, cond}
 use mathlib.Core.List.{List, [], _∷_, _++_}
-use Prim.Native.Nat.{ℕ, _≤_, _<_}
+use Prim.Native.Nat.{ℕ, _<_}
 use lib.Dec.{leb, eqb}
 use lib.ListN.{length}
 use lib.Signed.{mag}
@@ -61,17 +61,17 @@ pub record Formed (k : ℕ) (o : Operand) (names : List ℕ) : Type 0 where
   pub count : namesIn o ≡ length names
 
 -- what is refused where a test fails
-abbrev pub unless : Bool → Refusal → Written → Written
-unless t r w = cond t w (Refused r)
+abbrev pub writtenIf : Bool → Refusal → Written → Written
+writtenIf t r w = cond t w (Refused r)
 
 -- 7, then 2 for a shape that isn't the opcode's and for a count that isn't the names', then 18; n names, so many bytes of room
 abbrev pub writtenBy : Shaped → Operand → ℕ → ℕ → Written
 writtenBy (P.Refused r) o n room = Refused UnknownOpcode
 writtenBy (P.Is s) o n room =
-    unless (leb n 255) TooManyKeywords
-    (unless (eqb (shapeNumber s) (shapeNumber (operandShape o))) WrongShape
-    (unless (eqb (namesIn o) n) WrongShape
-    (unless (leb (sizeOf s n) room) (Full Code)
+    writtenIf (leb n 255) TooManyKeywords
+    (writtenIf (eqb (shapeNumber s) (shapeNumber (operandShape o))) WrongShape
+    (writtenIf (eqb (namesIn o) n) WrongShape
+    (writtenIf (leb (sizeOf s n) room) (Full Code)
     (Size (sizeOf s n)))))
 
 -- the writer's answer: 1 first (R17)
@@ -87,8 +87,3 @@ filled (Refused r) bytes out = out
 pub record Writes (k : ℕ) (o : Operand) (names out : List ℕ) (answer : Written) (out′ : List ℕ) : Type 0 where
   pub answers : answer ≡ writtenOf k o (length names) (length out)
   pub cells : out′ ≡ filled (writtenOf k o (length names) (length out)) (encode k o names) out
-
--- what the bytes are written under: the operand counts the names, and there is room
-pub record Writable (o : Operand) (names out : List ℕ) : Type 0 where
-  pub count : namesIn o ≡ length names
-  pub fits : sizeOf (operandShape o) (length names) ≤ length out

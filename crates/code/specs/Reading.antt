@@ -80,9 +80,3 @@ countBy n (some r) = Stopped n r
 -- the instructions of a code, counted (R18)
 unfoldable pub countOf : (last : ℕ) (code : List ℕ) → Count
 countOf last code = let read = instructionsIn last code in countBy (length (read .spots)) (read .fault)
-
--- the count where a step is no instruction
-abbrev pub stopped : ℕ → Step → Count
-stopped n (Instr k o size) = Whole n
-stopped n End = Whole n
-stopped n (Refused r) = Stopped n r

@@ -1,7 +1,8 @@
 // A code read from its start to its end or its first fault.
 ghost use mathlib.Core.Path.{_≡_};
 ghost use Rattle.op.specs.Opcodes.{lastOpcode};
-ghost use Rattle.code.specs.Reading.{countOf, stopped};
+ghost use Rattle.code.specs.Reading.{countOf};
+ghost use Rattle.code.specs.Inner.{stopped};
 use crate::Count;
 use crate::Step;
 use crate::decoder;

@@ -10,6 +10,7 @@ use native.Mathlib.Decide.{decLe}
 use native.Mathlib.Omega.{arith}
 use lib.ListN.{length, take, drop, getD, List·getD-append}
 use borrow.Author.Tests.{le-leb}
+use Rattle.base.proofs.Bools.{clash}
 use Rattle.op.specs.Opcodes.{lastOpcode}
 use Rattle.code.specs.Depths.{Smallest, Derived}
 use Rattle.code.proofs.Assigning.{smallest-agree}
@@ -34,7 +35,7 @@ use Rattle.demand.proofs.Finish.{depths, assigned, least, derives, list
 cell-of : (c : List ℕ) (o : ℕ) (x : Option ℕ) → depthIn c o ≡ x → cell c o ≤ 65536 → cell c o ≡ cellOf x
 cell-of c o (some d) e l = in-depth c o d e .0
 cell-of c o none e l = elim (decLe (cell c o) 65535) [
-  | yes h ↦ (let q = depth-in c o (cell c o) refl h in let z : _≡_ {A = ℕ} 0 1 = cc in absurd (omega arith))
+  | yes h ↦ (let q = depth-in c o (cell c o) refl h in clash cc)
   | no h ↦ omega arith
 ]
 
@@ -80,6 +81,5 @@ unfolding BuiltPromise
 built-promise b s st d d′ r c l h (stops q p a) =
     let t = built-sound b s st c l h in
     let f = p .1 in
-    let z : _≡_ {A = ℕ} 0 1 = cc in
-    absurd (omega arith)
+    clash cc
 built-promise b s st d d′ r c l h (passes n P) = P

@@ -6,10 +6,10 @@ use mathlib.Core.Logic.{_⊎_, inl, inr}
 use mathlib.Core.List.{List, [], _∷_}
 use mathlib.Core.Option.{some}
 use Prim.Native.Nat.{ℕ, zero, suc, _+_, _*_, _≤_}
-use native.Mathlib.Omega.{arith}
 use lib.Dec.{leb, eqb}
 use lib.ListN.{length, getD, getElem?}
 use borrow.Author.Tests.{leb-true}
+use Rattle.base.proofs.Bools.{or-true, clash}
 use Rattle.op.specs.declared.Refusal.the-variants.{OpenLabel, Unsound}
 use Rattle.builder.specs.State.{kept, unless}
 use Rattle.builder.specs.Marks.{anyOpen}
@@ -24,7 +24,7 @@ use Rattle.demand.specs.Machine.{isa}
 use Rattle.demand.specs.History.{ok, waits, to, What, one, leap}
 use Rattle.demand.specs.Calls.{build}
 use Rattle.demand.specs.World.{World, world, given, after, Made}
-use Rattle.demand.proofs.Lists.{nth-cases}
+use Rattle.base.proofs.Lists.{nth-cases}
 use Rattle.demand.proofs.Book.{WValid}
 use Rattle.demand.proofs.Bytes.{Closed}
 use Rattle.demand.proofs.Machining.{laws}
@@ -42,9 +42,9 @@ built-facts b fill names marks n e =
         → unless (s && t) Unsound names (cond u (kept (Refused OpenLabel) names) (kept (Accepted b) (filledNames (b .names) fill names))) .answer ≡ Accepted n
         → (b .core .code ≤ codeLimit) × (anyOpen (b .core .marks) marks ≡ false) × (n ≡ b)
     go true true false p q e = (leb-true (b .core .code) codeLimit p, q, cc)
-    go true true true p q e = absurd (let z : _≡_ {A = ℕ} 0 1 = cc in omega arith)
-    go true false u p q e = absurd (let z : _≡_ {A = ℕ} 0 1 = cc in omega arith)
-    go false t u p q e = absurd (let z : _≡_ {A = ℕ} 0 1 = cc in omega arith)
+    go true true true p q e = clash cc
+    go true false u p q e = clash cc
+    go false t u p q e = clash cc
 
 -- what an accepted build of w says of it and of the world that it leaves
 pub record Builds (w w′ : World) : Type 0 where
@@ -63,7 +63,7 @@ builds fill w w′ m =
         → w′ ≡ world (after a (w .state)) (w .code) (w .locations) (w .exceptions) (w .constants)
         (buildOf (w .state) fill (w .names) (w .marks) .cells) (w .marks) (w .starts)
         → Builds w w′
-    go (Refused r) p q l = absurd (let z : _≡_ {A = ℕ} 0 1 = cc in omega arith)
+    go (Refused r) p q l = clash cc
     go (Accepted n) p q l =
         let f = built-facts (w .state) fill (w .names) (w .marks) n p in
         record {
@@ -80,22 +80,18 @@ open-kind kind x y o d e = go (eqb kind 1) (eqb kind 2) (eqb kind 3) e
   where
     go : (p q r : Bool) → cond p (Open x y) (cond q (Patched x y) (cond r (Target x y) Absent)) ≡ Open o d → p ≡ true
     go true q r e = refl
-    go false true r e = absurd (let z : _≡_ {A = ℕ} 0 1 = cc in omega arith)
-    go false false true e = absurd (let z : _≡_ {A = ℕ} 0 1 = cc in omega arith)
-    go false false false e = absurd (let z : _≡_ {A = ℕ} 0 1 = cc in omega arith)
-
-or-true : (a : Bool) → (a || true) ≡ true
-or-true true = refl
-or-true false = refl
+    go false true r e = clash cc
+    go false false true e = clash cc
+    go false false false e = clash cc
 
 pub open-any : (n : ℕ) (marks : List ℕ) (k o d : ℕ) → getElem? (tab n (markAt marks)) k ≡ some (Open o d) → anyOpen n marks ≡ true
 unfolding tab anyOpen
-open-any zero marks k o d e = absurd (let z : _≡_ {A = ℕ} 0 1 = cc in omega arith)
+open-any zero marks k o d e = clash cc
 open-any (suc n) marks k o d e = go (nth-cases (tab n (markAt marks)) (markAt marks n ∷ []) k e) (λ (q : getElem? (tab n (markAt marks)) k ≡ some (Open o d)). open-any n marks k o d q)
   where
     last : (i : ℕ) → getElem? (markAt marks n ∷ []) i ≡ some (Open o d) → eqb (getD marks (n * markCells) 0) openKind ≡ true
     last zero q = let m : markAt marks n ≡ Open o d = cc in open-kind (getD marks (n * markCells) 0) (getD marks (n * markCells + 1) 0) (getD marks (n * markCells + 2) 0) o d m
-    last (suc i) q = absurd (let z : _≡_ {A = ℕ} 0 1 = cc in omega arith)
+    last (suc i) q = clash cc
 
     go : (getElem? (tab n (markAt marks)) k ≡ some (Open o d)) ⊎ ((i : ℕ) × (k ≡ length (tab n (markAt marks)) + i) × (getElem? (markAt marks n ∷ []) i ≡ some (Open o d)))
         → (getElem? (tab n (markAt marks)) k ≡ some (Open o d) → anyOpen n marks ≡ true) → (anyOpen n marks || eqb (getD marks (n * markCells) 0) openKind) ≡ true

@@ -7,15 +7,16 @@ use mathlib.Core.List.{List, [], _∷_, _++_, map, append-assoc, List·Memᴰ as
 use mathlib.Core.Option.{some, none}
 use Prim.Native.Nat.{ℕ, _+_, _-_, _/_, _%_, _≤_, _<_}
 use native.Mathlib.Omega.{arith}
-use native.Mathlib.Nat.{zero-add, suc-add}
 use lib.Dec.{eqb}
 use lib.ListN.{length, set, length-append}
 use borrow.Author.Tests.{eqb-true, eq-eqb, ne-eqb}
+use Rattle.base.proofs.Bools.{clash}
+use Rattle.base.proofs.Lists.{set-skip}
 use Rattle.builder.specs.Marks.{near, bits}
 use Rattle.builder.specs.declared.Depth.{Depth}
 use Rattle.builder.specs.declared.Depth.the-variants.{Dead, Live}
 use Rattle.demand.specs.Isa.{Isa}
-use Rattle.demand.specs.History.{waits, to, What, one, leap, Row, size, aimed, resolve, atEnd, depthAt}
+use Rattle.demand.specs.History.{waits, to, What, one, leap, Row, size, settledAim, resolve, atEnd, depthAt}
 use Rattle.demand.proofs.Laws.{Laws}
 use Rattle.demand.proofs.Book.{Chain}
 
@@ -68,8 +69,8 @@ module _ (I : Isa) (L : Laws I) where
   depth-sound [] n c o d h = go (eqb n o) refl c h
     where
       go : (x : Bool) → eqb n o ≡ x → (c : Depth) → cond x (atEnd c) none ≡ some d → ((r : Row I) × Mem r [] × (r .offset ≡ o) × (r .depth ≡ d)) ⊎ ((n ≡ o) × (c ≡ Live d))
-      go false e c h = absurd (let z : _≡_ {A = ℕ} 0 1 = cc in omega arith)
-      go true e Dead h = absurd (let z : _≡_ {A = ℕ} 0 1 = cc in omega arith)
+      go false e c h = clash cc
+      go true e Dead h = clash cc
       go true e (Live x) h = inr (eqb-true n o e, cc)
   depth-sound (x ∷ rs) n c o d h = go (eqb (x .offset) o) refl h (λ (k : depthAt I rs n c o ≡ some d). depth-sound rs n c o d k)
     where
@@ -111,10 +112,6 @@ module _ (I : Isa) (L : Laws I) where
 abbrev patch2 : List ℕ → ℕ → ℕ → List ℕ
 patch2 l x w = set (set l (x + 1) (w % 256)) (x + 2) (w / 256)
 
-set-skip : (a l : List ℕ) (i v : ℕ) → set (a ++ l) (length a + i) v ≡ a ++ set l i v
-set-skip [] l i v = rw zero-add
-set-skip (x ∷ a) l i v = rw (suc-add (length a) i) (ap (λ (y : List ℕ). x ∷ y) (set-skip a l i v))
-
 patch-skip : (a l : List ℕ) (x w : ℕ) → patch2 (a ++ l) (length a + x) w ≡ a ++ patch2 l x w
 patch-skip a l x w =
     let p : length a + x + 1 ≡ length a + (x + 1) = omega arith in
@@ -122,7 +119,7 @@ patch-skip a l x w =
     rw (p, q, set-skip a l (x + 1) (w % 256), set-skip a (set l (x + 1) (w % 256)) (x + 2) (w / 256))
 
 module _ (I : Isa) (L : Laws I) (k t : ℕ) where
-  aim-cases : (w : What I) → (aimed I k t w ≡ w) ⊎ ((j : I .Jump) × (w ≡ leap j (waits k)))
+  aim-cases : (w : What I) → (settledAim I k t w ≡ w) ⊎ ((j : I .Jump) × (w ≡ leap j (waits k)))
   aim-cases (one p) = inl refl
   aim-cases (leap j (to u)) = inl refl
   aim-cases (leap j (waits l)) = go (eqb l k) refl
@@ -135,7 +132,7 @@ module _ (I : Isa) (L : Laws I) (k t : ℕ) where
   resolve-none [] n = refl
   resolve-none (r ∷ rs) n = go (aim-cases (r .what)) (resolve-none rs (λ q j m e. n q j (mtail m) e))
     where
-      go : (aimed I k t (r .what) ≡ r .what) ⊎ ((j : I .Jump) × (r .what ≡ leap j (waits k))) → map (resolve I k t) rs ≡ rs → map (resolve I k t) (r ∷ rs) ≡ r ∷ rs
+      go : (settledAim I k t (r .what) ≡ r .what) ⊎ ((j : I .Jump) × (r .what ≡ leap j (waits k))) → map (resolve I k t) rs ≡ rs → map (resolve I k t) (r ∷ rs) ≡ r ∷ rs
       go (inl e) ih = rw (e, ih)
       go (inr (j, e)) ih = absurd (n r j (mhead refl) e)
 
@@ -177,7 +174,7 @@ module _ (I : Isa) (L : Laws I) (k t : ℕ) where
       where
         go : (z : (y : ℕ) × (x ≡ length (bytesAt I (r .offset) (r .what)) + y) × (s + size I (r .what) + y ≡ o))
             → patch2 (bytesOf I rs) (z .0) (bits o t) ≡ bytesOf I (map (resolve I k t) rs)
-            → (aimed I k t (r .what) ≡ r .what) ⊎ ((j : I .Jump) × (r .what ≡ leap j (waits k)))
+            → (settledAim I k t (r .what) ≡ r .what) ⊎ ((j : I .Jump) × (r .what ≡ leap j (waits k)))
             → patch2 (bytesOf I (r ∷ rs)) x (bits o t) ≡ bytesOf I (map (resolve I k t) (r ∷ rs))
         go z ih (inl a) = rw (z .1, patch-skip (bytesAt I (r .offset) (r .what)) (bytesOf I rs) (z .0) (bits o t), ih, a)
         go z ih (inr (i, v)) = head-aimed s n r rs x i h st e v

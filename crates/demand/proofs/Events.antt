@@ -8,6 +8,7 @@ use mathlib.Core.Option.{Option, some, none}
 use Prim.Native.Nat.{ℕ, zero, suc, _+_, _≤_}
 use native.Mathlib.Omega.{arith}
 use lib.ListN.{length, getElem?}
+use Rattle.base.proofs.Bools.{clash}
 use Rattle.builder.specs.Marks.{near}
 use Rattle.builder.specs.declared.Depth.the-variants.{Dead, Live}
 use Rattle.builder.specs.declared.marks.Mark.{Mark}
@@ -15,13 +16,13 @@ use Rattle.builder.specs.declared.marks.Mark.the-variants.{Open, Target}
 use Rattle.demand.specs.Isa.{Isa}
 use Rattle.demand.specs.History.{Aim, waits, to, What, one, leap, Row, size}
 use Rattle.demand.proofs.Laws.{Laws}
-use Rattle.demand.proofs.Lists.{nth-seam}
+use Rattle.base.proofs.Lists.{nth-seam}
 use Rattle.demand.proofs.Book.{Book, net, stops, after, grown, push, WValid, Dep, row, tip, Der, begin, fall, RowOK, Good, Moves, der-moves}
 use Rattle.demand.proofs.Grow.{grow, moves-grown}
 
 pub after-live : (I : Isa) (s : Bool) (e : Option ℕ) (d : ℕ) → after I s e ≡ Live d → (s ≡ false) × (e ≡ some d)
-after-live I true e d h = absurd (let z : _≡_ {A = ℕ} 0 1 = cc in omega arith)
-after-live I false none d h = absurd (let z : _≡_ {A = ℕ} 0 1 = cc in omega arith)
+after-live I true e d h = clash cc
+after-live I false none d h = clash cc
 after-live I false (some e) d h = (refl, cc)
 
 pub net-small : (I : Isa) (L : Laws I) (w : What I) (d e : ℕ) → net I w d ≡ some e → e ≤ 65535
@@ -86,11 +87,11 @@ module _ (I : Isa) (L : Laws I) (b : Book I) (g : Good I L b) (d : ℕ) (l : b .
 
   pub append-good : (p : I .Plain) → L .valid p → (e : ℕ) → I .net p d ≡ some e → Good I L (push I b d (one p) [])
   append-good p v e n = push-good (one p) [] v e n
-      (λ j u h. absurd (let z : _≡_ {A = ℕ} 0 1 = cc in omega arith))
-      (λ j o t h k. absurd (let z : _≡_ {A = ℕ} 0 1 = cc in omega arith)) (
-        (λ j k h. absurd (let z : _≡_ {A = ℕ} 0 1 = cc in omega arith)),
-        (λ i o t h. absurd (let z : _≡_ {A = ℕ} 0 1 = cc in omega arith)),
-        (λ i o t h. let z : _≡_ {A = ℕ} 0 1 = cc in omega arith),
+      (λ j u h. clash cc)
+      (λ j o t h k. clash cc) (
+        (λ j k h. clash cc),
+        (λ i o t h. clash cc),
+        (λ i o t h. clash cc),
       )
 
   pub jump-good : (j : I .Jump) (o t : ℕ) → near (b .len) o ≡ true → (e : ℕ) → I .jnet j d ≡ some e → I .taken j d ≡ some t
@@ -98,9 +99,9 @@ module _ (I : Isa) (L : Laws I) (b : Book I) (g : Good I L b) (d : ℕ) (l : b .
   jump-good j o t v e n k at = push-good (leap j (to o)) [] (L .jnet-jumps j d e n, v) e n
       (λ i u h. let q : i ≡ j = cc in (t, rw q k))
       (λ i u f h q. let p : u ≡ o = cc in let p′ : i ≡ j = cc in let q′ : I .taken j d ≡ some f = rw p′ at q in let r : f ≡ t = cc in rw (p, r) at′) (
-        (λ i u h. absurd (let z : _≡_ {A = ℕ} 0 1 = cc in omega arith)),
-        (λ i u f h. absurd (let z : _≡_ {A = ℕ} 0 1 = cc in omega arith)),
-        (λ i u f h. let z : _≡_ {A = ℕ} 0 1 = cc in omega arith),
+        (λ i u h. clash cc),
+        (λ i u f h. clash cc),
+        (λ i u f h. clash cc),
       )
     where
       at′ : Dep I b o t
@@ -108,17 +109,17 @@ module _ (I : Isa) (L : Laws I) (b : Book I) (g : Good I L b) (d : ℕ) (l : b .
 
   one-mark : (a m : Mark) (i : ℕ) → getElem? (a ∷ []) i ≡ some m → (i ≡ 0) × (m ≡ a)
   one-mark a m zero h = (refl, cc)
-  one-mark a m (suc i) h = absurd (let z : _≡_ {A = ℕ} 0 1 = cc in omega arith)
+  one-mark a m (suc i) h = clash cc
 
   pub label-good : (j : I .Jump) (t e : ℕ) → I .jnet j d ≡ some e → I .taken j d ≡ some t
       → Good I L (push I b d (leap j (waits (length (b .marks)))) (Open (b .len) t ∷ []))
   label-good j t e n k = push-good (leap j (waits (length (b .marks)))) (Open (b .len) t ∷ []) (L .jnet-jumps j d e n) e n
       (λ i u h. let q : i ≡ j = cc in (t, rw q k))
-      (λ i u f h q. absurd (let z : _≡_ {A = ℕ} 0 1 = cc in omega arith)) (
+      (λ i u f h q. clash cc) (
         (λ i u h. let q : i ≡ j = cc in let q′ : u ≡ length (b .marks) = cc in (t, rw q′ (nth-seam (b .marks) (Open (b .len) t) []), rw q k)),
         (λ i o f h. let q = one-mark (Open (b .len) t) (Open o f) i h in let q′ = q .0 in let q″ = q .1 in
             (j, ap (λ (x : ℕ). leap j (waits x)) (omega arith), cc)),
-        (λ i o f h. let q = one-mark (Open (b .len) t) (Target o f) i h in let q″ = q .1 in let z : _≡_ {A = ℕ} 0 1 = cc in omega arith),
+        (λ i o f h. let q = one-mark (Open (b .len) t) (Target o f) i h in let q″ = q .1 in clash cc),
       )
 
   pub target-good : Good I L (grown I b [] [] (Target (b .len) d ∷ []) (b .len) (Live d))
@@ -129,7 +130,7 @@ module _ (I : Isa) (L : Laws I) (b : Book I) (g : Good I L b) (d : ℕ) (l : b .
     tips = λ t h. let q : d ≡ t = cc in rw (← q) (der-moves mv (g .tips d l .0), g .tips d l .1);
     begins = λ o t m. absurd (List·Memᴰ·not-nil m);
     opens = λ r j k m h. absurd (List·Memᴰ·not-nil m);
-    labels = λ i o t h. let q = one-mark (Target (b .len) d) (Open o t) i h in let q″ = q .1 in absurd (let z : _≡_ {A = ℕ} 0 1 = cc in omega arith);
+    labels = λ i o t h. let q = one-mark (Target (b .len) d) (Open o t) i h in let q″ = q .1 in clash cc;
     spots = λ i o t h. let q = one-mark (Target (b .len) d) (Target o t) i h in let q″ = q .1 in tip (cc) (cc);
   })
     where
@@ -143,11 +144,11 @@ module _ (I : Isa) (L : Laws I) (b : Book I) (g : Good I L b) where
   pub region-good : (d : ℕ) → b .cur ≡ Dead → d ≤ 65535 → Good I L (grown I b [] ((b .len, d) ∷ []) [] (b .len) (Live d))
   region-good d l s = grow I L b [] ((b .len, d) ∷ []) [] (b .len) (Live d) g (record {
     chain = refl;
-    bridge = λ t h. absurd (let z : _≡_ {A = ℕ} 0 1 = cc in omega arith);
+    bridge = λ t h. clash cc;
     each = λ r m. absurd (List·Memᴰ·not-nil m);
     tips = λ t h. let q : d ≡ t = cc in rw (← q) (begin (Memᴰ·append-right (b .starts) (mhead refl)), s);
     begins = λ o t m. let q = List·Memᴰ·eq-of-singleton m in tip (sym (ap (λ (x : ℕ × ℕ). x .0) q)) (sym (ap (λ (x : ℕ × ℕ). Live (x .1)) q));
     opens = λ r j k m h. absurd (List·Memᴰ·not-nil m);
-    labels = λ i o t h. absurd (let z : _≡_ {A = ℕ} 0 1 = cc in omega arith);
-    spots = λ i o t h. absurd (let z : _≡_ {A = ℕ} 0 1 = cc in omega arith);
+    labels = λ i o t h. clash cc;
+    spots = λ i o t h. clash cc;
   })

@@ -1,7 +1,6 @@
 -- Rows with the invariant, where no jump waits: their depths are the smallest assignment for their bytes and the starts.
 -- Assumes nothing.
 use mathlib.Core.Path.{_≡_, refl, sym, subst, _∙_}
-use mathlib.Core.Bool.{Bool, true, false, not}
 use mathlib.Core.Logic.{_⊎_, inl, inr}
 use mathlib.Core.List.{List, map, List·Memᴰ as Mem}
 use mathlib.Core.Option.{Option, some}
@@ -9,6 +8,7 @@ use Prim.Native.Nat.{ℕ, _+_, _≤_}
 use native.Mathlib.Omega.{arith}
 use lib.IntN.{subℕ}
 use lib.ListN.{length, length-map}
+use Rattle.base.proofs.Bools.{not-true}
 use Rattle.op.specs.Opcodes.{lastOpcode}
 use Rattle.op.specs.Depths.{takenDepthOf, lowFalling, lowTaken}
 use Rattle.op.specs.Effects.{effectOf, takenOf, deadMaker}
@@ -25,17 +25,13 @@ use Rattle.checker.specs.Promise.{Listed}
 use Rattle.demand.specs.Machine.{isa}
 use Rattle.demand.specs.History.{waits, to, What, one, leap, Row, size, depthAt}
 use Rattle.demand.specs.Demand.{cells}
-use Rattle.demand.proofs.Lists.{mem-map, mem-map-inv}
+use Rattle.base.proofs.Lists.{mem-map, mem-map-inv}
 use Rattle.demand.proofs.Book.{Book, Dep, row, tip, Der, begin, hop, RowOK, Good}
 use Rattle.demand.proofs.Book as K
 use Rattle.demand.proofs.Bytes.{bytesOf, depth-sound, depth-row, depth-tip, Closed}
-use Rattle.demand.proofs.Machining.{leads-of, in-range, laws}
+use Rattle.demand.proofs.Machining.{leads-of, depth-is, laws}
 use Rattle.demand.proofs.Pairs.{begins-mem, mem-begins, cells-length}
 use Rattle.demand.proofs.Standing.{said, said-net, said-stops, flowAt, row-stands, end-stands, row-place, end-place, rising}
-
-not-false : (b : Bool) → not b ≡ true → b ≡ false
-not-false true e = absurd (let z : _≡_ {A = ℕ} 0 1 = cc in omega arith)
-not-false false e = refl
 
 module _ (b : Book isa) (g : Good isa laws b) (closed : (r : Row isa) → Mem r (b .rows) → Closed isa laws (r .offset) (r .what)) where
   abbrev pub code : List ℕ
@@ -88,7 +84,7 @@ module _ (b : Book isa) (g : Good isa laws b) (closed : (r : Row isa) → Mem r 
           → isa .taken j e ≡ some d → Derived lastOpcode code (cells (b .starts)) o d
       leap-down p e x st D at ex k =
           let st′ : Stands lastOpcode code p (flowAt (length code) p (leap j (to o))) = rw ex at st in
-          jump D st′ (goal-is p o d at) (leads-of lowTaken e d (takenOf j) (in-range (takenDepthOf e j) d k))
+          jump D st′ (goal-is p o d at) (leads-of lowTaken e d (takenOf j) (depth-is (takenDepthOf e j) d k))
 
   depths-derived : (o d : ℕ) → depths o ≡ some d → Derived lastOpcode code (cells (b .starts)) o d
   depths-derived o d h = down (came o d (sound o d h) .0)
@@ -105,7 +101,7 @@ module _ (b : Book isa) (g : Good isa laws b) (closed : (r : Row isa) → Mem r 
         record {
           depth = n .0;
           leads = leads-of lowFalling d (n .0) (effectOf (said o w .opcode) (said o w .operand)) (said-net o w d (n .0) (n .1));
-          has = λ f. complete (o + size isa w) (n .0) (ok .falls (n .0) (sym (said-stops o w) ∙ not-false (deadMaker (said o w .opcode)) f) (n .1));
+          has = λ f. complete (o + size isa w) (n .0) (ok .falls (n .0) (sym (said-stops o w) ∙ not-true (deadMaker (said o w .opcode)) f) (n .1));
         }
 
   row-jumps : (o d : ℕ) (w : What isa) → Mem (record { offset = o; depth = d; what = w }) (b .rows) → Closed isa laws o w
@@ -120,7 +116,7 @@ module _ (b : Book isa) (g : Good isa laws b) (closed : (r : Row isa) → Mem r 
         target = t;
         depth = e .0;
         goes = goal-is o t (e .0) at;
-        leads = leads-of lowTaken d (e .0) (takenOf j) (in-range (takenDepthOf d j) (e .0) (e .1));
+        leads = leads-of lowTaken d (e .0) (takenOf j) (depth-is (takenDepthOf d j) (e .0) (e .1));
         has = complete t (e .0) at;
       }
 

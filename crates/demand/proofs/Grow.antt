@@ -14,7 +14,7 @@ use Rattle.builder.specs.declared.marks.Mark.the-variants.{Open, Target}
 use Rattle.demand.specs.Isa.{Isa}
 use Rattle.demand.specs.History.{waits, leap, Row, size}
 use Rattle.demand.proofs.Laws.{Laws}
-use Rattle.demand.proofs.Lists.{nth-left, nth-cases}
+use Rattle.base.proofs.Lists.{nth-left, nth-cases}
 use Rattle.demand.proofs.Book.{Book, grown, Chain, Dep, row, tip, Der, RowOK, Good, Moves, ok-moves}
 
 pub chain-append : (I : Isa) (o n : ℕ) (xs ys : List (Row I)) (m : ℕ) → Chain I o xs n → Chain I n ys m → Chain I o (xs ++ ys) m

@@ -4,8 +4,8 @@ use mathlib.Core.Path.{_≡_}
 use mathlib.Core.Bool.{Bool, true, false}
 use mathlib.Core.List.{List}
 use Prim.Native.Nat.{ℕ}
-use native.Mathlib.Omega.{arith}
 use lib.ListN.{length}
+use Rattle.base.proofs.Bools.{clash}
 use Rattle.op.specs.declared.Operand.{Operand}
 use Rattle.op.specs.declared.Refusal.{Refusal}
 use Rattle.op.specs.declared.Refusal.the-variants.{JumpTooFar, DepthsDiffer, Unsound}
@@ -40,14 +40,14 @@ to-idle c l k t cl ll marks e = line-idle (toAsked c l k t (targetMark t (c .mar
 
 -- a label that is Dead has nothing to patch, and a mark is never idle
 pub guard-never : (t : Bool) (r : Refusal) (o w : ℕ) (a : Depth) → patchGuard t r Patching.Idle ≡ Patching.Go a w o → ⊥
-guard-never true r o w a e = let z : _≡_ {A = ℕ} 0 1 = cc in omega arith
-guard-never false r o w a e = let z : _≡_ {A = ℕ} 0 1 = cc in omega arith
+guard-never true r o w a e = clash cc
+guard-never false r o w a e = clash cc
 
 patch-never : {B : Type 0} {r : Refusal} → Patching.Refuse r ≡ Patching.Idle → B
-patch-never e = let z : _≡_ {A = ℕ} 0 1 = cc in absurd (omega arith)
+patch-never e = clash cc
 
 patch-busy : (o w : ℕ) (a : Depth) → Patching.Go a w o ≡ Patching.Idle → ⊥
-patch-busy o w a e = let z : _≡_ {A = ℕ} 0 1 = cc in omega arith
+patch-busy o w a e = clash cc
 
 patch-guard-idle : (t : Bool) (r : Refusal) (p : PatchPlan) → patchGuard t r p ≡ Patching.Idle → p ≡ Patching.Idle
 patch-guard-idle true r p e = e

@@ -1,11 +1,12 @@
 -- What calls keep: a refused call changes no table, and calls that emit nothing leave what the view looks at.
 -- Assumes nothing.
 use mathlib.Core.Path.{_≡_, refl}
-use mathlib.Core.Bool.{Bool, true, false, cond, _&&_}
+use mathlib.Core.Bool.{Bool, _&&_}
 use mathlib.Core.List.{List}
 use Prim.Native.Nat.{ℕ, _+_}
 use lib.Dec.{leb, ltb, eqb}
 use lib.ListN.{length}
+use Rattle.base.proofs.Bools.{either}
 use Rattle.op.specs.declared.Operand.{Operand}
 use Rattle.op.specs.declared.Refusal.{Refusal}
 use Rattle.op.specs.declared.Refusal.the-variants.{TooLarge, NamesHeld, OpenLabel, Full, Unsound}
@@ -89,9 +90,6 @@ module _ (b : Builder) (r : Refusal) where
     patch-refused e = patch-by (patchPlanOf (b .core) l (length code) marks) e
 
 -- what holds of both choices holds of a choice
-pub either : {A : Type 0} (P : A → Type 0) (t : Bool) (x y : A) → P x → P y → P (cond t x y)
-either P true x y p q = p
-either P false x y p q = q
 
 module _ (b : Builder) (r : Refusal) (marks : List ℕ) where
   abbrev MarksKept : TargetOutcome → Type 0

@@ -1,5 +1,4 @@
 pub mod Laws
-pub mod Lists
 pub mod Book
 pub mod Grow
 pub mod Events

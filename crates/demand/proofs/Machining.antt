@@ -1,6 +1,6 @@
 -- The laws of the rules' instruction set, from the laws of `op` and `code`.
 -- Assumes nothing.
-use mathlib.Core.Path.{_≡_, refl, _∙_}
+use mathlib.Core.Path.{_≡_, refl}
 use mathlib.Core.Bool.{Bool, true, false, cond}
 use mathlib.Core.List.{List, [], _∷_, _++_}
 use mathlib.Core.Option.{some}
@@ -9,10 +9,10 @@ use native.Mathlib.Omega.{arith}
 use lib.Dec.{leb}
 use lib.IntN.{ℤ, pos, subℕ}
 use lib.ListN.{length}
-use lib.Seq.{drop-at}
 use lib.Signed.{mag}
 use mir.Syntax.{w16}
 use borrow.Author.Tests.{leb-true}
+use Rattle.base.proofs.Bools.{clash}
 use Rattle.op.specs.Depths.{deepest, landing, afterOf, takenDepthOf, lowFalling, lowTaken}
 use Rattle.op.specs.Opcodes.{lastOpcode}
 use Rattle.op.specs.Shapes.{shapeOf, operandShape}
@@ -33,8 +33,7 @@ use Rattle.code.specs.Flow.{goalOf, changeOf}
 use Rattle.code.specs.Reading.{Instruction, before, instructionsFrom}
 use Rattle.code.specs.declared.Goal.the-variants.{Nowhere}
 use Rattle.code.proofs.Decoding.{shape-known}
-use Rattle.code.proofs.Instructions.{instructions-step}
-use Rattle.code.proofs.Inverse.{decode-encode, names-encode, words-names}
+use Rattle.code.proofs.Inverse.{reads-encoded}
 use Rattle.code.proofs.Twos.{signed-small, unsigned-signed}
 use Rattle.code.specs.Tables.{jumpSize}
 use Rattle.builder.specs.Marks.{near, bits}
@@ -48,31 +47,31 @@ use Rattle.demand.proofs.Laws.{Laws}
 module _ (low : Refusal) (d e : ℕ) where
   by-tests : (s t : Bool) (x : ℕ) (p q : Refusal) → leb x deepest ≡ t → cond s (cond t (A.Depth x) (A.Refused p)) (A.Refused q) ≡ A.Depth e → e ≤ 65535
   by-tests true true x p q h k = let z : x ≡ e = cc in omega (arith, leb-true x deepest h)
-  by-tests true false x p q h k = absurd (let z : _≡_ {A = ℕ} 0 1 = cc in omega arith)
-  by-tests false t x p q h k = absurd (let z : _≡_ {A = ℕ} 0 1 = cc in omega arith)
+  by-tests true false x p q h k = clash cc
+  by-tests false t x p q h k = clash cc
 
   pub landing-small : (x : Effect) → landing low d x ≡ A.Depth e → e ≤ 65535
   unfolding landing
   landing-small (E.By up down) h = by-tests (leb down (d + up)) (leb (d + up - down) deepest) (d + up - down) _ _ refl h
-  landing-small (E.Refused r) h = absurd (let z : _≡_ {A = ℕ} 0 1 = cc in omega arith)
+  landing-small (E.Refused r) h = clash cc
 
   -- the depth does not hang on the refusal that is given below 0
   any-low : (s t : Bool) (x : ℕ) (p q q′ : Refusal) → cond s (cond t (A.Depth x) (A.Refused p)) (A.Refused q) ≡ A.Depth e → cond s (cond t (A.Depth x) (A.Refused p)) (A.Refused q′) ≡ A.Depth e
   any-low true t x p q q′ h = h
-  any-low false t x p q q′ h = absurd (let z : _≡_ {A = ℕ} 0 1 = cc in omega arith)
+  any-low false t x p q q′ h = clash cc
 
   -- an effect that lands leads there as a change
   pub leads-of : (x : Effect) → landing low d x ≡ A.Depth e → Leads d (changeOf x) e
   unfolding landing
   leads-of (E.By up down) h = any-low (leb down (d + up)) (leb (d + up - down) deepest) (d + up - down) _ _ _ h
-  leads-of (E.Refused r) h = absurd (let z : _≡_ {A = ℕ} 0 1 = cc in omega arith)
+  leads-of (E.Refused r) h = clash cc
 
-pub in-range : (x : After) (e : ℕ) → inRange x ≡ some e → x ≡ A.Depth e
-in-range (A.Depth d) e h = cc
-in-range (A.Refused r) e h = absurd (let z : _≡_ {A = ℕ} 0 1 = cc in omega arith)
+pub depth-is : (x : After) (e : ℕ) → inRange x ≡ some e → x ≡ A.Depth e
+depth-is (A.Depth d) e h = cc
+depth-is (A.Refused r) e h = clash cc
 
 pub after-small : (d k : ℕ) (o : Operand) (e : ℕ) → inRange (afterOf d k o) ≡ some e → e ≤ 65535
-after-small d k o e h = landing-small lowFalling d e (effectOf k o) (in-range (afterOf d k o) e h)
+after-small d k o e h = landing-small lowFalling d e (effectOf k o) (depth-is (afterOf d k o) e h)
 
 -- a jump's net effect is the same at every displacement
 pub jump-net : (d k : ℕ) (z y : ℤ) → afterOf d k (O.Offset z) ≡ afterOf d k (O.Offset y)
@@ -92,25 +91,14 @@ pub record Valid (i : Instruction) : Type 0 where
 abbrev pub Jumps : ℕ → Type 0
 Jumps k = shapeOf k ≡ P.Is S.Offset
 
--- what is well formed reads back under each table that has its opcode, whatever follows
-pub read-under : (last at : ℕ) (i : Instruction) → i .opcode ≤ last → Formed (i .opcode) (i .operand) (i .names) → (r : List ℕ)
-    → instructionsFrom last at (isa .bytes i ++ r)
-    ≡ before (record { offset = at; what = i; size = length (isa .bytes i) }) (instructionsFrom last (at + length (isa .bytes i)) r)
-read-under last at i l f r =
-    let u = isa .bytes i ++ r in
-    let d = decode-encode last (i .opcode) (i .operand) (i .names) r l f at in
-    let n = names-encode last (i .opcode) (i .operand) (i .names) r l f in
-    let rest = drop-at (isa .bytes i) r (length (isa .bytes i)) refl in
-    instructions-step last at u ∙ rw (d, n, words-names (i .names), rest)
-
--- the port's own has the opcode of all that is well formed
+-- the port's own table has the opcode of all that is well formed
 pub formed-known : {k : ℕ} {o : Operand} {ns : List ℕ} → Formed k o ns → k ≤ lastOpcode
 formed-known {k} {o} f = shape-known k (operandShape o) (f .shape)
 
 pub read-formed : (at : ℕ) (i : Instruction) → Formed (i .opcode) (i .operand) (i .names) → (r : List ℕ)
     → instructionsFrom lastOpcode at (isa .bytes i ++ r)
     ≡ before (record { offset = at; what = i; size = length (isa .bytes i) }) (instructionsFrom lastOpcode (at + length (isa .bytes i)) r)
-read-formed at i f r = read-under lastOpcode at i (formed-known f) f r
+read-formed at i f r = reads-encoded lastOpcode at i r (formed-known f) f
 
 -- a jump's displacement
 
@@ -139,6 +127,6 @@ laws = record {
   some-byte = λ i. encode-some (i .opcode) (i .operand) (i .names);
   net-small = λ i d e h. after-small d (i .opcode) (i .operand) e h;
   jnet-small = λ k d e h. after-small d k (O.Offset (pos 0)) e h;
-  taken-small = λ k d e h. landing-small lowTaken d e (takenOf k) (in-range (takenDepthOf d k) e h);
-  jnet-jumps = λ k d e h. after-shape d k (O.Offset (pos 0)) e (in-range (afterOf d k (O.Offset (pos 0))) e h);
+  taken-small = λ k d e h. landing-small lowTaken d e (takenOf k) (depth-is (takenDepthOf d k) e h);
+  jnet-jumps = λ k d e h. after-shape d k (O.Offset (pos 0)) e (depth-is (afterOf d k (O.Offset (pos 0))) e h);
 }

@@ -6,33 +6,33 @@ use mathlib.Core.Logic.{_≢_}
 use mathlib.Core.List.{List, [], _∷_, map, List·Memᴰ as Mem}
 use mathlib.Core.Option.{some}
 use Prim.Native.Nat.{ℕ, _+_, _≤_}
-use native.Mathlib.Omega.{arith}
 use lib.Dec.{eqb}
 use lib.ListN.{set, getElem?}
 use borrow.Author.Tests.{eqb-true, eqb-false, eq-eqb, ne-eqb}
+use Rattle.base.proofs.Bools.{clash}
 use Rattle.builder.specs.Marks.{near}
 use Rattle.builder.specs.declared.Depth.the-variants.{Live}
 use Rattle.builder.specs.declared.marks.Mark.{Mark}
 use Rattle.builder.specs.declared.marks.Mark.the-variants.{Open, Patched, Target}
 use Rattle.demand.specs.Isa.{Isa}
-use Rattle.demand.specs.History.{waits, to, What, one, leap, Row, size, aimed, resolve}
+use Rattle.demand.specs.History.{waits, to, What, one, leap, Row, size, settledAim, resolve}
 use Rattle.demand.proofs.Laws.{Laws}
-use Rattle.demand.proofs.Lists.{nth-set-same, nth-set-other, mem-map, mem-map-inv}
+use Rattle.base.proofs.Lists.{nth-set-same, nth-set-other, mem-map, mem-map-inv}
 use Rattle.demand.proofs.Book.{Book, net, stops, patched, Chain, Dep, row, tip, Der, hop, RowOK, Good, Moves, der-moves, ok-moves}
 
 -- the jump that is aimed keeps its size and effects
 module _ (I : Isa) (k t : ℕ) where
-  aim-size : (w : What I) → size I (aimed I k t w) ≡ size I w
+  aim-size : (w : What I) → size I (settledAim I k t w) ≡ size I w
   aim-size (one p) = refl
   aim-size (leap j (waits l)) = refl
   aim-size (leap j (to u)) = refl
 
-  aim-net : (w : What I) → net I (aimed I k t w) ≡ net I w
+  aim-net : (w : What I) → net I (settledAim I k t w) ≡ net I w
   aim-net (one p) = refl
   aim-net (leap j (waits l)) = refl
   aim-net (leap j (to u)) = refl
 
-  aim-stops : (w : What I) → stops I (aimed I k t w) ≡ stops I w
+  aim-stops : (w : What I) → stops I (settledAim I k t w) ≡ stops I w
   aim-stops (one p) = refl
   aim-stops (leap j (waits l)) = refl
   aim-stops (leap j (to u)) = refl
@@ -42,13 +42,13 @@ module _ (I : Isa) (k t : ℕ) where
   chain-resolve o (r ∷ rs) n h = (h .0, rw (aim-size (r .what)) (chain-resolve (o + size I (r .what)) rs n (h .1)))
 
   -- a jump that still waits waited before, and for another label
-  aim-open : (w : What I) (j : I .Jump) (l : ℕ) → aimed I k t w ≡ leap j (waits l) → (w ≡ leap j (waits l)) × (l ≢ k)
-  aim-open (one p) j l h = absurd (let z : _≡_ {A = ℕ} 0 1 = cc in omega arith)
-  aim-open (leap i (to u)) j l h = absurd (let z : _≡_ {A = ℕ} 0 1 = cc in omega arith)
+  aim-open : (w : What I) (j : I .Jump) (l : ℕ) → settledAim I k t w ≡ leap j (waits l) → (w ≡ leap j (waits l)) × (l ≢ k)
+  aim-open (one p) j l h = clash cc
+  aim-open (leap i (to u)) j l h = clash cc
   aim-open (leap i (waits m)) j l h = go (eqb m k) refl h
     where
       go : (x : Bool) → eqb m k ≡ x → _≡_ {A = What I} (leap i (cond x (to t) (waits m))) (leap j (waits l)) → (_≡_ {A = What I} (leap i (waits m)) (leap j (waits l))) × (l ≢ k)
-      go true e q = absurd (let z : _≡_ {A = ℕ} 0 1 = cc in omega arith)
+      go true e q = clash cc
       go false e q = (q, λ c. eqb-false m k e (let y : l ≡ m = cc in cc))
 
 module _ (I : Isa) (L : Laws I) (b : Book I) (g : Good I L b) (k o d : ℕ) (mk : getElem? (b .marks) k ≡ some (Open o d))
@@ -79,7 +79,7 @@ module _ (I : Isa) (L : Laws I) (b : Book I) (g : Good I L b) (k o d : ℕ) (mk 
 
   ok-resolve : (p e : ℕ) (w : What I) → Mem (record { offset = p; depth = e; what = w }) (b .rows)
       → RowOK I L (patched I b k o d) (record { offset = p; depth = e; what = w })
-      → RowOK I L (patched I b k o d) (record { offset = p; depth = e; what = aimed I k (b .len) w })
+      → RowOK I L (patched I b k o d) (record { offset = p; depth = e; what = settledAim I k (b .len) w })
   ok-resolve p e (one q) m x = x
   ok-resolve p e (leap j (to u)) m x = x
   ok-resolve p e (leap j (waits l)) m x = go (eqb l k) refl
@@ -131,7 +131,7 @@ module _ (I : Isa) (L : Laws I) (b : Book I) (g : Good I L b) (k o d : ℕ) (mk 
           → (e : ℕ) × (getElem? (set (b .marks) k (Patched o d)) l ≡ some (Open (r .offset) e)) × (I .taken j (r .depth) ≡ some e)
       opens r j l m h =
           let q = mem-map-inv (resolve I k (b .len)) (b .rows) m in
-          let h′ : aimed I k (b .len) (q .0 .what) ≡ leap j (waits l) = rw (q .2) at h in
+          let h′ : settledAim I k (b .len) (q .0 .what) ≡ leap j (waits l) = rw (q .2) at h in
           let a = aim-open I k (b .len) (q .0 .what) j l h′ in
           let c = g .opens (q .0) j l (q .1) (a .0) in
           rw (q .2) (c .0, other l (a .1) ∙ c .1, c .2)
@@ -144,11 +144,11 @@ module _ (I : Isa) (L : Laws I) (b : Book I) (g : Good I L b) (k o d : ℕ) (mk 
       labels : (l p e : ℕ) → getElem? (set (b .marks) k (Patched o d)) l ≡ some (Open p e)
           → (r : Row I) × (j : I .Jump) × Mem r (map (resolve I k (b .len)) (b .rows)) × (r .what ≡ leap j (waits l)) × (r .offset ≡ p)
       labels l p e h =
-          let n = apart l p e (Open p e) (λ c. let z : _≡_ {A = ℕ} 0 1 = cc in omega arith) h in
+          let n = apart l p e (Open p e) (λ c. clash cc) h in
           let q = g .labels l p e (sym (other l n) ∙ h) in
           (resolve I k (b .len) (q .0), q .1, mem-map (resolve I k (b .len)) (q .2), rw (q .3, ne-eqb l k n), q .4)
 
       spots : (l p e : ℕ) → getElem? (set (b .marks) k (Patched o d)) l ≡ some (Target p e) → Dep I (patched I b k o d) p e
       spots l p e h =
-          let n = apart l p e (Target p e) (λ c. let z : _≡_ {A = ℕ} 0 1 = cc in omega arith) h in
+          let n = apart l p e (Target p e) (λ c. clash cc) h in
           moves-patched .deps p e (g .spots l p e (sym (other l n) ∙ h))

@@ -3,8 +3,8 @@
 use mathlib.Core.Path.{_≡_, refl, sym, ap, _∙_}
 use mathlib.Core.List.{List, []}
 use Prim.Native.Nat.{ℕ, _%_}
-use native.Mathlib.Omega.{arith}
 use lib.ListN.{length}
+use Rattle.base.proofs.Bools.{clash}
 use Rattle.op.specs.Chosen.{LoadGlobalCallable, CallBuiltinFunction, CallBuiltinType, CallFunctionKw, CallAttrKw}
 use Rattle.op.specs.Opcodes.{RaiseUnboundLocal}
 use Rattle.op.specs.declared.Operand.{Operand}
@@ -48,19 +48,19 @@ use Rattle.demand.proofs.Keeping.{new-kept}
 
 module _ (r : Refusal) where
   by-answer : (a : Answer) → given a ≡ no r → a ≡ R.Refused r
-  by-answer (R.Accepted b) e = absurd (let z : _≡_ {A = ℕ} 0 1 = cc in omega arith)
+  by-answer (R.Accepted b) e = clash cc
   by-answer (R.Refused q) e = cc
 
   by-jump : (a : Jumped) → givenJump a ≡ no r → a ≡ J.Refused r
-  by-jump (J.Made b l) e = absurd (let z : _≡_ {A = ℕ} 0 1 = cc in omega arith)
+  by-jump (J.Made b l) e = clash cc
   by-jump (J.Refused q) e = cc
 
   by-target : (a : Targeted) → givenTarget a ≡ no r → a ≡ G.Refused r
-  by-target (G.Made b l) e = absurd (let z : _≡_ {A = ℕ} 0 1 = cc in omega arith)
+  by-target (G.Made b l) e = clash cc
   by-target (G.Refused q) e = cc
 
   by-const : (a : Added) → givenConst a ≡ no r → a ≡ N.Refused r
-  by-const (N.Made b i) e = absurd (let z : _≡_ {A = ℕ} 0 1 = cc in omega arith)
+  by-const (N.Made b i) e = clash cc
   by-const (N.Refused q) e = cc
 
   module _ (w : World) where
@@ -130,11 +130,11 @@ module _ (r : Refusal) where
     step-same (build fill) e =
         let a = by-answer (buildOf (w .state) fill (w .names) (w .marks) .answer) e in
         rw (a, build-refused r (w .names) (w .state) fill (w .marks) a) refl
-    step-same (set-location r f) e = absurd (let z : _≡_ {A = ℕ} 0 1 = cc in omega arith)
-    step-same current-offset e = absurd (let z : _≡_ {A = ℕ} 0 1 = cc in omega arith)
-    step-same current-position e = absurd (let z : _≡_ {A = ℕ} 0 1 = cc in omega arith)
-    step-same stack-depth e = absurd (let z : _≡_ {A = ℕ} 0 1 = cc in omega arith)
-    step-same is-dead e = absurd (let z : _≡_ {A = ℕ} 0 1 = cc in omega arith)
+    step-same (set-location r f) e = clash cc
+    step-same current-offset e = clash cc
+    step-same current-position e = clash cc
+    step-same stack-depth e = clash cc
+    step-same is-dead e = clash cc
 
 pub refused-same : RefusedSame
 refused-same c w w′ r m =

@@ -8,6 +8,7 @@ use native.Mathlib.Omega.{arith}
 use lib.IntN.{pos}
 use lib.ListN.{length, drop, length-append}
 use lib.Seq.{drop-at}
+use Rattle.base.proofs.Bools.{clash}
 use Rattle.op.specs.Opcodes.{lastOpcode}
 use Rattle.op.specs.Depths.{afterOf}
 use Rattle.op.specs.Effects.{deadMaker}
@@ -26,10 +27,10 @@ use Rattle.code.proofs.Instructions.{instructions-step}
 use Rattle.code.proofs.Places.{stands-size}
 use Rattle.demand.specs.Machine.{isa}
 use Rattle.demand.specs.History.{waits, to, What, one, leap, Row, size, final, spotOf, program}
-use Rattle.demand.proofs.Lists.{mem-map}
+use Rattle.base.proofs.Lists.{mem-map}
 use Rattle.demand.proofs.Book.{net, stops, Chain}
 use Rattle.demand.proofs.Bytes.{bytesAt, bytesOf, length-bytes, bytes-length, size-some, Closed}
-use Rattle.demand.proofs.Machining.{formed-known, read-formed, in-range, jump-net, jump-bytes, jump-formed, laws}
+use Rattle.demand.proofs.Machining.{formed-known, read-formed, depth-is, jump-net, jump-bytes, jump-formed, laws}
 
 -- what a row says
 
@@ -47,9 +48,9 @@ said-bytes o (leap j (waits l)) v = absurd v
 said-bytes o (leap j (to t)) v = jump-bytes o t (v .1) j
 
 pub said-net : (o : ℕ) (w : What isa) (d e : ℕ) → net isa w d ≡ some e → afterOf d (said o w .opcode) (said o w .operand) ≡ A.Depth e
-said-net o (one i) d e h = in-range _ e h
-said-net o (leap j (waits l)) d e h = in-range _ e h
-said-net o (leap j (to t)) d e h = jump-net d j _ (pos 0) ∙ in-range _ e h
+said-net o (one i) d e h = depth-is _ e h
+said-net o (leap j (waits l)) d e h = depth-is _ e h
+said-net o (leap j (to t)) d e h = jump-net d j _ (pos 0) ∙ depth-is _ e h
 
 pub said-stops : (o : ℕ) (w : What isa) → deadMaker (said o w .opcode) ≡ stops isa w
 said-stops o (one i) = refl
@@ -142,8 +143,7 @@ module _ (rows : List (Row isa)) (n : ℕ) (chain : Chain isa 0 rows n) (closed 
   pub whole : (q : Refusal) → Faulty lastOpcode code q → ⊥
   whole q a =
       let e : none ≡ some q = sym (ap (λ (read : Read). read .fault) reads-rows) ∙ a .is in
-      let z : _≡_ {A = ℕ} 0 1 = cc in
-      omega arith
+      clash cc
 
   -- the rows' offsets rise
   rising-from : (o : ℕ) (rs : List (Row isa)) → Chain isa o rs n → Rising o (map (λ (r : Row isa). r .offset) rs)

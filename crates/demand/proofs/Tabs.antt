@@ -17,7 +17,7 @@ use Rattle.code.specs.Bytes.{wordBytes}
 use Rattle.builder.specs.declared.marks.Mark.the-variants.{Absent, Open, Patched, Target}
 use Rattle.code.specs.Tables.{markCells, startCells, put}
 use Rattle.builder.specs.Marks.{openKind, patchedKind, targetKind, markRow, markOf, markAt}
-use Rattle.demand.proofs.Lists.{nth-left, nth-seam}
+use Rattle.base.proofs.Lists.{nth-left, nth-seam}
 use Rattle.demand.proofs.View.{tab, startAt}
 
 -- the first n values of a function

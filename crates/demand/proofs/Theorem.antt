@@ -6,6 +6,7 @@ use Prim.Native.Nat.{ℕ, _≤_, _<_}
 use native.Mathlib.Omega.{arith}
 use lib.ListN.{length}
 use lib.Seq.{length-take-le}
+use Rattle.base.proofs.Bools.{clash}
 use Rattle.op.specs.Opcodes.{lastOpcode}
 use Rattle.builder.specs.State.{Kept, kept}
 use Rattle.builder.specs.Regions.{newOf}
@@ -18,7 +19,7 @@ use Rattle.checker.specs.declared.Checked.{Checked}
 use Rattle.demand.specs.Machine.{isa}
 use Rattle.demand.specs.History.{waits, leap, Row, History}
 use Rattle.demand.specs.World.{World}
-use Rattle.demand.specs.Demand.{InDepth, begun, finished, regionStarts, cells, Accepts, Demand, Demanded}
+use Rattle.demand.specs.Demand.{InDepth, begun, finished, regionStarts, cells, AcceptsAs, Demand, Demanded}
 use Rattle.demand.proofs.Bytes.{bytesOf, depth-row, Closed}
 use Rattle.demand.proofs.Machining.{laws}
 use Rattle.demand.proofs.Pairs.{cells-tab}
@@ -37,8 +38,7 @@ module _ (w w′ : World) (h : History) (t : Tied (view w) h) (B : Builds w w′
       let q = t .good .opens r j k m e in
       let z = open-any (w .state .core .marks) (w .marks) k (r .offset) (q .0) (q .1) in
       let y = B .closed in
-      let x : _≡_ {A = ℕ} 0 1 = cc in
-      omega arith
+      clash cc
 
   closed : (r : Row isa) → Mem r (h .rows) → Closed isa laws (r .offset) (r .what)
   closed r m = closed-by (r .offset) (r .what) (t .good .each r m .fine) (settled r m)
@@ -54,7 +54,7 @@ finish w w′ h i t B =
     let en : length (finished w) ≡ h .end = tied-end (view w) h t in
     let short : h .end ≤ codeLimit = omega (arith, B .limit, length-take-le (w .state .core .code) (w .code) (i .code)) in
     let accepts : (d d′ : List ℕ) (r : Checked) → length (finished w′) < length d
-    → Promise lastOpcode (finished w′) (regionStarts w′) d d′ r → Accepts w′ h r d′ =
+    → Promise lastOpcode (finished w′) (regionStarts w′) d d′ r → AcceptsAs w′ h r d′ =
     rw (B .state, B .code, B .starts) (checked-at b g c (finished w) (regionStarts w) (length (finished w)) ec es en short) in
     record {
       unchanged = (B .state, B .code, B .starts);

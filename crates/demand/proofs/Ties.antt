@@ -10,6 +10,7 @@ use native.Mathlib.Omega.{arith}
 use lib.IntN.{pos}
 use lib.ListN.{length, set, getElem?}
 use borrow.Author.Tests.{eq-eqb, ne-eqb, eqb-true}
+use Rattle.base.proofs.Bools.{clash}
 use Rattle.op.specs.Depths.{afterOf, takenDepthOf}
 use Rattle.op.specs.Effects.{deadMaker}
 use Rattle.op.specs.declared.After.the-variants as A
@@ -35,7 +36,7 @@ use Rattle.demand.specs.Machine.{inRange, isa}
 use Rattle.demand.specs.History.{waits, to, What, one, leap, Row}
 use Rattle.demand.specs.History.{Call, emit, emitJump, emitJumpTo, patchJump, jumpTarget, newRegion, other, Given, no, ok}
 use Rattle.demand.specs.History.{History, born, blank, add, patchHere, targetHere, startHere, look, seen}
-use Rattle.demand.proofs.Lists.{nth-cases, nth-lt, nth-set-same, nth-set-other}
+use Rattle.base.proofs.Lists.{nth-cases, nth-lt, nth-set-same, nth-set-other}
 use Rattle.demand.proofs.Book.{Book, net, stops, after, push, Good}
 use Rattle.demand.proofs.Events.{append-good, jump-good, label-good, target-good, region-good}
 use Rattle.demand.proofs.Patch.{patch-good}
@@ -72,11 +73,11 @@ empty-good : Good isa laws (record { rows = []; len = 0; cur = Dead; starts = []
 empty-good = record {
   chain = refl;
   each = λ r m. absurd (List·Memᴰ·not-nil m);
-  tips = λ d e. absurd (let z : _≡_ {A = ℕ} 0 1 = cc in omega arith);
+  tips = λ d e. clash cc;
   begins = λ o d m. absurd (List·Memᴰ·not-nil m);
   opens = λ r j k m e. absurd (List·Memᴰ·not-nil m);
-  labels = λ k o d e. absurd (let z : _≡_ {A = ℕ} 0 1 = cc in omega arith);
-  spots = λ k o d e. absurd (let z : _≡_ {A = ℕ} 0 1 = cc in omega arith);
+  labels = λ k o d e. clash cc;
+  spots = λ k o d e. clash cc;
 }
 
 abbrev pub fresh : Depth → View
@@ -87,8 +88,8 @@ Small Dead = Unit {0}
 Small (Live d) = d ≤ 65535
 
 pub fresh-tied : (told : Depth) → Small told → Tied (fresh told) (blank told)
-fresh-tied Dead s = record { good = empty-good; code = refl; targets = λ k o d e. absurd (let z : _≡_ {A = ℕ} 0 1 = cc in omega arith); starts = refl }
-fresh-tied (Live d) s = record { good = region-good isa laws _ empty-good d refl s; code = refl; targets = λ k o u e. absurd (let z : _≡_ {A = ℕ} 0 1 = cc in omega arith); starts = refl }
+fresh-tied Dead s = record { good = empty-good; code = refl; targets = λ k o d e. clash cc; starts = refl }
+fresh-tied (Live d) s = record { good = region-good isa laws _ empty-good d refl s; code = refl; targets = λ k o u e. clash cc; starts = refl }
 
 -- depths and bytes as the invariant has them
 
@@ -108,7 +109,7 @@ to-bytes : (k p o : ℕ) → near p o ≡ true → encode k (jumpBy (bits p o)) 
 to-bytes k p o c = rw (displaced p o c) (jump-bytes p o c k)
 
 meets-is : (x : Depth) (d e : ℕ) → meets x d ≡ true → x ≡ Live e → e ≡ d
-meets-is Dead d e h l = absurd (let z : _≡_ {A = ℕ} 0 1 = cc in omega arith)
+meets-is Dead d e h l = clash cc
 meets-is (Live f) d e h l = let q = eqb-true f d h in let p : f ≡ e = cc in cc
 
 trim : (rs : List (Row isa)) (n : ℕ) (c : Depth) (ss : List (ℕ × ℕ)) (ms : List Mark)
@@ -133,7 +134,7 @@ module _ (v : View) (h : History) (t : Tied v h) where
       go k o u (inr q) = absurd (n (q .0) o u (q .2))
 
   no-target : (i o u : ℕ) → getElem? [] i ≡ some (Target o u) → ⊥
-  no-target i o u q = let z : _≡_ {A = ℕ} 0 1 = cc in omega arith
+  no-target i o u q = clash cc
 
   tied-emit : (k : ℕ) (o : Operand) (ns : List ℕ) (d e : ℕ) → v .depth ≡ Live d → SignsFit o × Still o → namesIn o ≡ length ns → afterOf d k o ≡ A.Depth e
       → Tied (record { code = v .code ++ encode k o ns; marks = v .marks; starts = v .starts; depth = behind k e }) (add h (v .depth) (one (instruction k o ns)))
@@ -152,8 +153,8 @@ module _ (v : View) (h : History) (t : Tied v h) where
       (label-good isa laws (book v h) (t .good) d l k u e n (ap inRange g)) none)
     where
       none : (i o f : ℕ) → getElem? (Open (h .end) u ∷ []) i ≡ some (Target o f) → ⊥
-      none zero o f q = let z : _≡_ {A = ℕ} 0 1 = cc in omega arith
-      none (suc i) o f q = let z : _≡_ {A = ℕ} 0 1 = cc in omega arith
+      none zero o f q = clash cc
+      none (suc i) o f q = clash cc
 
   tied-jump : (k i d e o u : ℕ) → v .depth ≡ Live d → afterOf d k (jumpBy (bits (length (v .code)) o)) ≡ A.Depth e → takenDepthOf d k ≡ A.Depth u
       → getElem? (v .marks) i ≡ some (Target o u) → near (length (v .code)) o ≡ true
@@ -176,7 +177,7 @@ module _ (v : View) (h : History) (t : Tied v h) where
     where
       only : (o u i k : ℕ) → k ≡ length (v .marks) + i → getElem? (Target (h .end) d ∷ []) i ≡ some (Target o u) → (length (v .marks) ≡ k) × (h .end ≡ o)
       only o u zero k e q = (omega arith, cc)
-      only o u (suc i) k e q = absurd (let z : _≡_ {A = ℕ} 0 1 = cc in omega arith)
+      only o u (suc i) k e q = clash cc
 
       go : (k o u : ℕ) → (getElem? (v .marks) k ≡ some (Target o u)) ⊎ ((i : ℕ) × (k ≡ length (v .marks) + i) × (getElem? (Target (h .end) d ∷ []) i ≡ some (Target o u)))
           → look ((length (v .marks), h .end) ∷ h .targets) k ≡ o
@@ -212,7 +213,7 @@ module _ (v : View) (h : History) (t : Tied v h) where
       before i p f e = sym (nth-set-other (v .marks) k i (Patched o u) (λ c.
           let s = nth-set-same (v .marks) k (Patched o u) m in
           let e′ : getElem? (set (v .marks) k (Patched o u)) k ≡ some (Target p f) = rw c at e in
-          let z : _≡_ {A = ℕ} 0 1 = cc in omega arith)) ∙ e
+          clash cc)) ∙ e
 
   tied-dead : (w : What isa) → v .depth ≡ Dead → Tied v (add h (v .depth) w)
   tied-dead w e = let q : add h (v .depth) w ≡ h = rw e in rw q t

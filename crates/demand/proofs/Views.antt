@@ -6,10 +6,10 @@ use mathlib.Core.List.{List, [], _∷_, _++_}
 use mathlib.Core.Option.{some}
 use Prim.Native.Nat.{ℕ, _+_, _/_, _≤_}
 use native.Mathlib.Omega.{arith}
-use lib.Dec.{leb}
 use lib.ListN.{length, take}
 use lib.Seq.{length-take-le}
 use borrow.Author.Tests.{ltb-true, eqb-true}
+use Rattle.base.proofs.Bools.{clash}
 use Rattle.op.specs.declared.Operand.{Operand}
 use Rattle.op.specs.declared.Refusal.the-variants.{Full, Unsound}
 use Rattle.op.specs.declared.Table.the-variants.{Starts}
@@ -124,7 +124,7 @@ module _ (b : Builder) (k : ℕ) (t : JumpTarget) (code locs marks starts : List
   to-by (Go a w s) e =
       let c = b .core in
       let g = to-goes c (b .location) k t (length code) (length locs) marks s w a e in
-      let u = mark-used (c .marks) marks (g .row) (Target (g .offset) (g .depth)) (g .mark) (λ n. let z : _≡_ {A = ℕ} 0 1 = cc in omega arith) in
+      let u = mark-used (c .marks) marks (g .row) (Target (g .offset) (g .depth)) (g .mark) (λ n. clash cc) in
       rw (code-grows c (b .location) (g .here) k (jumpBy w) [] w code (length locs) s a w (g .sound .code) (g .goes), g .goes .depth)
       (jumped-at (viewOf b code marks starts) k (g .here) (g .goes .next) (g .row) (g .offset) (g .depth) (c .code) w t (g .target) (length-take-le (c .code) code (g .sound .code)) (g .word)
       (g .live) (g .goes .falls) (g .taken) (tab-nth (c .marks) (markAt marks) (g .row) (u .0) ∙ ap some (u .1)) (g .close))
@@ -158,7 +158,7 @@ module _ (b : Builder) (code marks starts : List ℕ) where
         let c = b .core in
         let h = markable-true c (length code) (length marks) sd in
         let g = patch-goes c o w a (markIn (c .marks) marks i) e in
-        let u = mark-used (c .marks) marks i (Open o (g .depth)) (g .mark) (λ n. let z : _≡_ {A = ℕ} 0 1 = cc in omega arith) in
+        let u = mark-used (c .marks) marks i (Open o (g .depth)) (g .mark) (λ n. clash cc) in
         rw (code-patch code (c .code) o w (g .place) (h .code), marks-patch i o (g .depth) marks (u .1) (c .marks) (u .0) (omega (arith, h .rows)))
         (patched-at (viewOf b code marks starts) i o (g .depth) (c .code) w a (g .after ∙ revived-live (c .depth) (g .depth) (g .meet)) (length-take-le (c .code) code (h .code)) (g .word)
         (tab-nth (c .marks) (markAt marks) i (u .0) ∙ ap some (u .1)) (g .small) (g .meet) (g .close) (g .place))
@@ -239,4 +239,4 @@ new-view (Live d) code marks starts b e = go (room startCells 0 (length starts))
         → viewOf b code marks (unless t (Full Starts) starts (kept (Accepted (freshAt (Live d) 1)) (put 0 (0 ∷ d ∷ []) starts)) .cells)
         ≡ record { code = []; marks = []; starts = born (Live d); depth = Live d }
     go true q e = rw (← made (freshAt (Live d) 1) b e, starts-push 0 0 d starts (omega (arith, ltb-true 0 (length starts / startCells) q))) refl
-    go false q e = absurd (let z : _≡_ {A = ℕ} 0 1 = cc in omega arith)
+    go false q e = clash cc

@@ -5,9 +5,9 @@ use mathlib.Core.Bool.{Bool, true, false}
 use mathlib.Core.List.{List, [], _∷_}
 use Prim.Native.Nat.{ℕ, _+_, _*_, _/_, _≤_}
 use native.Mathlib.Omega.{arith}
-use lib.Dec.{leb}
 use lib.ListN.{length}
 use borrow.Author.Tests.{ltb-true}
+use Rattle.base.proofs.Bools.{either, clash}
 use Rattle.op.specs.declared.Operand.{Operand}
 use Rattle.op.specs.declared.Refusal.the-variants.{Full}
 use Rattle.op.specs.declared.Table.the-variants.{Starts}
@@ -37,7 +37,7 @@ use Rattle.builder.specs.declared.plan.Plan.{Plan}
 use Rattle.builder.specs.declared.plan.Plan.the-variants.{Idle, Refuse, Go}
 use Rattle.code.proofs.Putting.{length-put}
 use Rattle.demand.specs.World.{after, afterJump, afterTarget, afterConst}
-use Rattle.demand.proofs.Keeping.{either, SameCore}
+use Rattle.demand.proofs.Keeping.{SameCore}
 use Rattle.demand.proofs.Views.{made}
 
 -- emission keeps the count of starts
@@ -136,4 +136,4 @@ new-within (Live d) starts b e = go (room startCells 0 (length starts)) refl e
     go true q e =
         let l = ltb-true 0 (length starts / startCells) q in
         rw (← made (freshAt (Live d) 1) b e) (refl, omega (arith, length-put 0 (0 ∷ d ∷ []) starts (omega arith)))
-    go false q e = absurd (let z : _≡_ {A = ℕ} 0 1 = cc in omega arith)
+    go false q e = clash cc

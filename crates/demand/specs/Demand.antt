@@ -69,8 +69,8 @@ cellOf none = noDepth
 cellOf (some d) = d
 
 -- a check accepts, with these depths in its cells, and counts as many instructions as the history has
-abbrev pub Accepts : World → History → Checked → List ℕ → Type 0
-Accepts w h r checked =
+abbrev pub AcceptsAs : World → History → Checked → List ℕ → Type 0
+AcceptsAs w h r checked =
     (r ≡ C.Accepted (length (h .rows))) × ((o : ℕ) → o ≤ length (finished w) → cell checked o ≡ cellOf (depths w h o))
 
 -- of the world w that the calls left, the world w′ behind `build`, and the history h of the calls
@@ -92,11 +92,11 @@ pub record Demand (w w′ : World) (h : History) : Type 0 where
   -- so `check` of those bytes and starts accepts where its cells have room, by its contract
   pub checks : (κs : Lfts 3) (code : Holding (finished w′)) (starts : Holding (regionStarts w′)) (entry exit : Slice) (r : Checked)
       → check-says κs (code .slice, (starts .slice, (entry, tt))) r (code .slice, (starts .slice, (exit, tt)))
-      → length (finished w′) < length (entry .now) → Accepts w′ h r (exit .now)
+      → length (finished w′) < length (entry .now) → AcceptsAs w′ h r (exit .now)
   -- and so does `check_built` of the builder and its tables
   pub checks-built : (κs : Lfts 3) (code : Holding (w′ .code)) (starts : Holding (w′ .starts)) (entry exit : Slice) (r : Checked)
       → check-built-says κs (w′ .state, (code .slice, (starts .slice, (entry, tt)))) r (w′ .state, (code .slice, (starts .slice, (exit, tt))))
-      → length (finished w′) < length (entry .now) → Accepts w′ h r (exit .now)
+      → length (finished w′) < length (entry .now) → AcceptsAs w′ h r (exit .now)
 
 -- the demand: of every fresh builder, all calls taken from there, and a `build` that is accepted (R59)
 abbrev pub Demanded : Type 0

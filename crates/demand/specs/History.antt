@@ -53,14 +53,14 @@ module _ (I : Isa) where
   final o (leap j (waits l)) = I .jump j (pos 0)
   final o (leap j (to t)) = I .jump j (subℕ t (o + jumpSize))
 
-  abbrev pub aimed : ℕ → ℕ → What I → What I
-  aimed l t (one p) = one p
-  aimed l t (leap j (waits m)) = leap j (cond (eqb m l) (to t) (waits m))
-  aimed l t (leap j (to u)) = leap j (to u)
+  abbrev pub settledAim : ℕ → ℕ → What I → What I
+  settledAim l t (one p) = one p
+  settledAim l t (leap j (waits m)) = leap j (cond (eqb m l) (to t) (waits m))
+  settledAim l t (leap j (to u)) = leap j (to u)
 
   -- the jump of the label l goes to t
   abbrev pub resolve : ℕ → ℕ → Row I → Row I
-  resolve l t r = record { offset = r .offset; depth = r .depth; what = aimed l t (r .what) }
+  resolve l t r = record { offset = r .offset; depth = r .depth; what = settledAim l t (r .what) }
 
   -- the depth at an offset: an instruction's, the end's if it is live, and nowhere else one
   abbrev pub depthAt : List (Row I) → ℕ → Depth → ℕ → Option ℕ

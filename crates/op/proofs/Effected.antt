@@ -3,17 +3,17 @@
 use mathlib.Core.Path.{_≡_, refl, _∙_, sym, ap}
 use mathlib.Core.Bool.{Bool, true, false, cond}
 use Prim.Native.Nat.{ℕ}
-use native.Mathlib.Omega.{arith}
 use borrow.Author.Tests.{eq-eqb, ne-eqb}
+use Rattle.base.proofs.Bools.{clash}
 use Rattle.op.specs.Opcodes.{known, rowOf}
 use Rattle.op.specs.Shapes.{shapeNumber, shapeIn, shapeOf, operandShape}
-use Rattle.op.specs.Effects.{ruleIn, ruleNo, ruleAt, effectBy, effectOf, formerOf, lastOf}
+use Rattle.op.specs.Effects.{ruleIn, effectBy, effectOf, formerOf, lastOf}
+use Rattle.op.specs.Inner.{ruleNo, ruleAt}
 use Rattle.op.specs.declared.Effect.the-variants as E
 use Rattle.op.specs.declared.Operand.{Operand}
 use Rattle.op.specs.declared.Refusal.{Refusal}
 use Rattle.op.specs.declared.Refusal.the-variants.{UnknownOpcode, WrongShape}
 use Rattle.op.specs.declared.Shape.{Shape}
-use Rattle.op.specs.declared.Shaped.{Shaped}
 use Rattle.op.specs.declared.Shaped.the-variants.{Is, Refused}
 use Rattle.op.proofs.Rules.{rule-at}
 
@@ -24,7 +24,7 @@ shape-is k s e = go (known k) refl e
   where
     go : (b : Bool) → known k ≡ b → cond b (Is (shapeIn (rowOf k))) (Refused UnknownOpcode) ≡ Is s → (known k ≡ true) × (shapeIn (rowOf k) ≡ s)
     go true q e = (q, cc)
-    go false q e = absurd (let z : _≡_ {A = ℕ} 0 1 = cc in omega arith)
+    go false q e = clash cc
 
 -- one whose shape is refused is not
 pub shape-refused : (k : ℕ) (r : Refusal) → shapeOf k ≡ Refused r → (known k ≡ false) × (r ≡ UnknownOpcode)
@@ -32,7 +32,7 @@ unfolding shapeOf
 shape-refused k r e = go (known k) refl e
   where
     go : (b : Bool) → known k ≡ b → cond b (Is (shapeIn (rowOf k))) (Refused UnknownOpcode) ≡ Refused r → (known k ≡ false) × (r ≡ UnknownOpcode)
-    go true q e = absurd (let z : _≡_ {A = ℕ} 0 1 = cc in omega arith)
+    go true q e = clash cc
     go false q e = (q, cc)
 
 pub effect-unknown : (k : ℕ) (o : Operand) (r : Refusal) → shapeOf k ≡ Refused r → E.Refused UnknownOpcode ≡ effectOf k o

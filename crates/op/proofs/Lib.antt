@@ -1,4 +1,3 @@
-pub mod Keys
 pub mod Signs
 pub mod Listed
 pub mod Rules

@@ -1,16 +1,15 @@
 -- Laws of the opcode table.
 -- Assumes nothing.
 use mathlib.Core.Path.{_≡_, refl}
-use mathlib.Core.Bool.{Bool, true, false}
+use mathlib.Core.Bool.{true, false}
 use mathlib.Core.Logic.{_↔_}
 use Prim.Native.Nat.{ℕ, suc, _+_, _≤_, _<_}
 use native.Mathlib.Omega.{arith}
-use lib.Dec.{leb}
 use lib.ListN.{length, List·getD-eq-default}
 use borrow.Author.Tests.{le-leb, lt-leb, leb-true}
 use Rattle.op.specs.Opcodes.{op, same, table, lastOpcode, known, rowOf}
 use Rattle.op.specs.declared.Shape.the-variants.{None}
-use Rattle.op.proofs.Keys.{Rest, upTo, past}
+use Rattle.base.proofs.Keys.{Rest, upTo, past}
 
 -- the rows are numbered from 0 to the last opcode
 pub rows : length table ≡ suc lastOpcode

@@ -1,20 +1,20 @@
 -- Laws of the rules of effects.
 -- Assumes nothing.
 use mathlib.Core.Path.{_≡_, refl}
-use mathlib.Core.Bool.{Bool, true, false, cond}
-use mathlib.Core.List.{List, [], _∷_}
-use Prim.Native.Nat.{ℕ, _+_, _*_, _/_, _%_, _≤_, _<_}
+use mathlib.Core.List.{[], _∷_}
+use Prim.Native.Nat.{ℕ, _+_, _≤_, _<_}
 use native.Mathlib.Omega.{arith}
 use lib.Dec.{eqb}
 use lib.ListN.{List·getD-eq-default}
+use Rattle.base.proofs.Bools.{either}
+use Rattle.base.specs.Tests.{isIn}
 use Rattle.op.specs.Opcodes.{Rule, minus3, minus2, minus1, same, plus1, plus2, minus-n, one-minus-n, one-minus-2n, n-minus-one, both, minus-both, one-minus-both, extended, format, assert, assert-failed, match-keys}
-use Rattle.op.specs.Choice.{isIn}
 use Rattle.op.specs.Opcodes.{known, Jump, JumpIfTrue, JumpIfFalse, JumpIfTrueOrPop, JumpIfFalseOrPop, ForIter}
-use Rattle.op.specs.Effects.{rules, ruleAt, ruleNumber, effectBy, takenOf, Small}
-use Rattle.op.specs.declared.Effect.{Effect}
+use Rattle.op.specs.Effects.{effectBy, takenOf, Small}
+use Rattle.op.specs.Inner.{rules, ruleAt, ruleNumber}
 use Rattle.op.specs.declared.Effect.the-variants.{By, Refused}
-use Rattle.op.specs.declared.Refusal.the-variants.{NotAJump, UnknownOpcode}
-use Rattle.op.proofs.Keys.{Rest, upTo, past}
+use Rattle.op.specs.declared.Refusal.the-variants.{NotAJump}
+use Rattle.base.proofs.Keys.{Rest, upTo, past}
 
 -- past the first 17 stands the last rule
 pub last-rule : (e : ℕ) → Rest (upTo 0 17) e → ruleAt e ≡ match-keys
@@ -44,10 +44,6 @@ rule-at assert-failed = refl
 rule-at match-keys = refl
 
 -- a choice of two small effects is small
-either : (t : Bool) (a b : Effect) → Small a → Small b → Small (cond t a b)
-either true a b p q = p
-either false a b p q = q
-
 -- every rule's effect is small over an operand's numbers
 pub rule-small : (r : Rule) (m n : ℕ) → m < 256 → n < 65536 → Small (effectBy r m n)
 unfolding effectBy
@@ -68,13 +64,13 @@ rule-small extended m n h l = (omega arith, omega arith)
 rule-small format m n h l = (omega arith, omega arith)
 rule-small assert m n h l = (omega arith, omega arith)
 rule-small assert-failed m n h l = (omega arith, omega arith)
-rule-small match-keys m n h l = either (eqb n 1) (By 0 1) (By 2 0) (omega arith, omega arith) (omega arith, omega arith)
+rule-small match-keys m n h l = either Small (eqb n 1) (By 0 1) (By 2 0) (omega arith, omega arith) (omega arith, omega arith)
 
 -- and so is a taken jump's
 pub taken-small : (k : ℕ) → Small (takenOf k)
 unfolding takenOf
 taken-small k =
-    either (known k) _ _
-    (either (isIn k (Jump ∷ JumpIfTrueOrPop ∷ JumpIfFalseOrPop ∷ [])) (By 0 0) _ (omega arith, omega arith)
-    (either (isIn k (JumpIfTrue ∷ JumpIfFalse ∷ ForIter ∷ [])) (By 0 1) (Refused NotAJump) (omega arith, omega arith) tt))
+    either Small (known k) _ _
+    (either Small (isIn k (Jump ∷ JumpIfTrueOrPop ∷ JumpIfFalseOrPop ∷ [])) (By 0 0) _ (omega arith, omega arith)
+    (either Small (isIn k (JumpIfTrue ∷ JumpIfFalse ∷ ForIter ∷ [])) (By 0 1) (Refused NotAJump) (omega arith, omega arith) tt))
     tt

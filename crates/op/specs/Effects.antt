@@ -1,13 +1,12 @@
 -- What an instruction does to the depth of the stack: op.rs, `stack_effect`, `jump_taken_stack_effect`; R7 to R10.
 -- An effect is a number to add, `up`, and a number to take away, `down`; the net effect is `up` - `down`.
 -- Assumes nothing.
-use mathlib.Core.Bool.{Bool, true, false, cond}
-use mathlib.Core.List.{List, [], _∷_}
+use mathlib.Core.Bool.{Bool, cond}
+use mathlib.Core.List.{[], _∷_}
 use Prim.Native.Nat.{ℕ, _+_, _*_, _/_, _%_, _<_}
 use lib.Dec.{eqb}
-use lib.IntN.{ℤ, subℕ}
-use lib.ListN.{getD}
-use Rattle.op.specs.Choice.{isIn}
+use lib.IntN.{subℕ}
+use Rattle.base.specs.Tests.{isIn}
 use Rattle.op.specs.Opcodes.{Rule, minus3, minus2, minus1, same, plus1, plus2, minus-n, one-minus-n, one-minus-2n, n-minus-one, both, minus-both, one-minus-both, extended, format, assert, assert-failed, match-keys}
 use Rattle.op.specs.Opcodes.{Row, op, known, rowOf}
 use Rattle.op.specs.Opcodes.{Jump, JumpIfTrue, JumpIfFalse, JumpIfTrueOrPop, JumpIfFalseOrPop, ForIter, Raise, Reraise, ReturnValue, RaiseUnboundLocal, AssertFailed}
@@ -112,38 +111,3 @@ deadMaker k = isIn k (ReturnValue ∷ Raise ∷ Reraise ∷ RaiseUnboundLocal �
 -- what is behind an opcode, or 1
 abbrev pub deadnessOf : ℕ → Deadness
 deadnessOf k = cond (known k) (cond (deadMaker k) D.Dead D.Live) (D.Refused UnknownOpcode)
-
--- the number by which the code knows a rule; no rule of docs/RULES.md
-abbrev pub ruleNumber : Rule → ℕ
-ruleNumber minus3 = 0
-ruleNumber minus2 = 1
-ruleNumber minus1 = 2
-ruleNumber same = 3
-ruleNumber plus1 = 4
-ruleNumber plus2 = 5
-ruleNumber minus-n = 6
-ruleNumber one-minus-n = 7
-ruleNumber one-minus-2n = 8
-ruleNumber n-minus-one = 9
-ruleNumber both = 10
-ruleNumber minus-both = 11
-ruleNumber one-minus-both = 12
-ruleNumber extended = 13
-ruleNumber format = 14
-ruleNumber assert = 15
-ruleNumber assert-failed = 16
-ruleNumber match-keys = 17
-
--- the rules in the order of these numbers, without the last
-abbrev pub rules : List Rule
-rules =
-    minus3 ∷ minus2 ∷ minus1 ∷ same ∷ plus1 ∷ plus2 ∷ minus-n ∷ one-minus-n ∷ one-minus-2n ∷ n-minus-one ∷ both ∷
-    minus-both ∷ one-minus-both ∷ extended ∷ format ∷ assert ∷ assert-failed ∷ []
-
--- the rule of a number
-abbrev pub ruleAt : ℕ → Rule
-ruleAt e = getD rules e match-keys
-
--- the number of an opcode's rule
-unfoldable pub ruleNo : ℕ → ℕ
-ruleNo k = ruleNumber (ruleIn (rowOf k))

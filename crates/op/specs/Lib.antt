@@ -1,4 +1,3 @@
-pub mod Choice
 pub mod Refusals
 pub mod Opcodes
 pub mod Chosen
@@ -7,3 +6,4 @@ pub mod Effects
 pub mod Depths
 pub mod Flags
 pub mod Names
+pub mod Inner

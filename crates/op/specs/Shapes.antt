@@ -1,6 +1,5 @@
 -- The shapes of operands: op.rs, `OperandShape`, `operand_shape`, `Operand::shape`; R3, R4.
 -- Assumes nothing.
-use mathlib.Core.Path.{_≡_}
 use mathlib.Core.Bool.{cond}
 use Prim.Native.Nat.{ℕ, _+_, _*_}
 use Rattle.op.specs.Opcodes.{Row, op, known, rowOf}
@@ -30,10 +29,6 @@ shapeNumber S.U16U16U8 = 11
 -- a row's shape
 abbrev pub shapeIn : Row → Shape
 shapeIn (op name shape rule) = shape
-
--- the number of an opcode's shape; 12 where there is no such opcode
-unfoldable pub shapeNo : ℕ → ℕ
-shapeNo k = cond (known k) (shapeNumber (shapeIn (rowOf k))) 12
 
 -- op.rs, `operand_shape`: an opcode's shape, or 1 (R2)
 unfoldable pub shapeOf : ℕ → Shaped

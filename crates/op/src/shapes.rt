@@ -1,6 +1,7 @@
 // The shapes of operands and the sizes of instructions.
 ghost use mathlib.Core.Path.{_≡_};
-ghost use Rattle.op.specs.Shapes.{shapeNumber, shapeNo, shapeOf, operandShape, sizeOf};
+ghost use Rattle.op.specs.Shapes.{shapeNumber, shapeOf, operandShape, sizeOf};
+ghost use Rattle.op.specs.Inner.{shapeNo};
 use crate::Operand;
 use crate::Refusal;
 use crate::Shape;

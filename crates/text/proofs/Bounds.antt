@@ -2,12 +2,12 @@
 -- Assumes nothing.
 use mathlib.Core.Path.{_≡_, refl, ap}
 use mathlib.Core.List.{List, [], _∷_, _++_}
-use Prim.Native.Nat.{ℕ, zero, suc, _+_, _*_, _≤_, _<_, _^_}
+use Prim.Native.Nat.{ℕ, suc, _+_, _*_, _≤_, _<_, _^_}
 use native.Mathlib.Omega.{arith}
 use lib.IntN.{ℤ, pos, negsuc, _+ℤ_}
 use lib.ListN.{length, getD, take, drop, length-append, length-take}
-use lib.Seq.{getD-drop}
 use lib.Signed.{mag}
+use Rattle.base.proofs.Lists.{take-below, drop-below}
 use Rattle.op.specs.Opcodes.{lastOpcode}
 use Rattle.op.specs.Shapes.{operandShape, sizeOf}
 use Rattle.op.specs.declared.Operand.{Operand}
@@ -100,15 +100,6 @@ names-few (O.U16U8U8 a b c) r = omega arith
 names-few (O.CallKw p n) r = omega arith
 names-few (O.CallAttrKw a p n) r = omega arith
 names-few (O.U16U16U8 a b c) r = omega arith
-
-take-below : (n : ℕ) (l : List ℕ) → ((i : ℕ) → getD l i 0 < 256) → (i : ℕ) → getD (take n l) i 0 < 256
-take-below zero l b i = omega arith
-take-below (suc n) [] b i = omega arith
-take-below (suc n) (x ∷ l) b zero = b 0
-take-below (suc n) (x ∷ l) b (suc i) = take-below n l (λ j. b (suc j)) i
-
-drop-below : (n : ℕ) (l : List ℕ) → ((i : ℕ) → getD l i 0 < 256) → (i : ℕ) → getD (drop n l) i 0 < 256
-drop-below n l b i = omega (arith, getD-drop n l i 0, b (n + i))
 
 -- all of a line but its name
 pub record Short (at : ℕ) (o : Operand) (u : List ℕ) : Type 0 where

@@ -9,22 +9,21 @@ use lib.Dec.{leb}
 use lib.ListN.{length, drop}
 use borrow.Author.Tests.{le-leb, lt-leb}
 use Rattle.op.specs.Opcodes.{lastOpcode}
-use Rattle.op.specs.Names.{nameOf, nameBy}
+use Rattle.op.specs.Names.{nameBy}
 use Rattle.op.specs.Refusals.{numberOf}
 use Rattle.op.specs.declared.Operand.{Operand}
 use Rattle.op.specs.declared.Refusal.{Refusal}
 use Rattle.op.specs.declared.Refusal.the-variants.{TooLarge}
-use Rattle.code.specs.Bytes.{wordsIn}
-use Rattle.code.specs.Decode.{decode, namesAt}
+use Rattle.code.specs.Decode.{decode}
 use Rattle.code.specs.declared.Step.{Step}
 use Rattle.code.specs.declared.Step.the-variants as S
 use Rattle.code.proofs.Decoding.{decoded-ends}
 use Rattle.text.specs.Decimal.{decimal}
 use Rattle.text.specs.Fields.{operandsAt, lineText, faultText, Found}
-use Rattle.text.specs.Listing.{line, header, faultLine, most, firstLine, lineBy, lineOf}
+use Rattle.text.specs.Listing.{header, faultLine, most, firstLine, lineBy, lineOf}
 use Rattle.text.specs.Lines.{linedBy, linedOf, linedIn, Lists}
 use Rattle.text.specs.Put.{Places, placedOf, written}
-use Rattle.text.specs.Row.{rowOf, rowText, targetOf, targetColumn}
+use Rattle.text.specs.Row.{targetOf, targetColumn}
 use Rattle.text.specs.declared.Lined.the-variants as L
 use Rattle.text.specs.declared.Placed.{Placed}
 
@@ -42,12 +41,6 @@ pub line-of : (name : ℕ → List ℕ) (at : ℕ) (u : List ℕ) (k : ℕ) (o :
 unfolding lineOf
 line-of name at u k o z e =
     ap (λ (s : Step). lineBy name at u s) e ∙ sym (regrouped (decimal at) (name k) (operandsAt o u) (targetColumn (targetOf at o)))
-
--- with op's names it is the text of a row
-pub line-row : (at : ℕ) (u : List ℕ) (k : ℕ) (o : Operand) (z : ℕ) → decode lastOpcode at u ≡ S.Instr k o z
-    → lineOf nameOf at u ≡ line (rowText (rowOf at k o (wordsIn (namesAt lastOpcode u))))
-unfolding lineOf rowText
-line-row at u k o z e = ap (λ (s : Step). lineBy nameOf at u s) e
 
 pub fault-of : (name : ℕ → List ℕ) (at : ℕ) (u : List ℕ) (r : Refusal) → decode lastOpcode at u ≡ S.Refused r
     → lineOf name at u ≡ faultLine at r

@@ -1,20 +1,20 @@
 -- Each name is its opcode's alone, and has no character below `0`, so no separator: one computed test over the table for each.
 -- Assumes nothing.
 use mathlib.Core.Path.{_≡_, refl, ap}
-use mathlib.Core.Bool.{Bool, true, false, cond}
+use mathlib.Core.Bool.{Bool, true, false, cond, _&&_}
 use mathlib.Core.List.{List, [], _∷_}
 use Prim.Native.Nat.{ℕ, zero, suc, _<_}
 use native.Mathlib.Nat.{not-suc-le-zero, le-of-suc-le-suc}
 use native.Mathlib.Omega.{arith}
 use lib.Dec.{T, leb, eqb, eqb→eq, eqb-refl}
 use lib.ListN.{length, getD}
+use Rattle.base.specs.Tests.{all}
+use Rattle.base.proofs.Bools.{and-left, and-right}
 use Rattle.op.specs.Names.{nameIn, nameOf}
 use Rattle.op.specs.Opcodes.{Row, op, same as unmoved, table, rowOf}
 use Rattle.op.specs.declared.Shape.the-variants.{None}
-use Rattle.op.proofs.Keys.{in-range}
-use Rattle.text.specs.Number.{and, all}
+use Rattle.base.proofs.Keys.{in-range}
 use Rattle.text.specs.Reading.{same, place, opcodeOf}
-use Rattle.text.proofs.ReadBack.{and-left, and-right}
 
 pub same→eq : (s t : List ℕ) → T (same s t) → s ≡ t
 same→eq [] [] h = refl
@@ -29,7 +29,7 @@ pub same-refl : (s : List ℕ) → same s s ≡ true
 same-refl [] = refl
 same-refl (x ∷ s) = both (eqb x x) (same s s) (eqb-refl x) (same-refl s)
   where
-    both : (a b : Bool) → T a → b ≡ true → and a b ≡ true
+    both : (a b : Bool) → T a → b ≡ true → (a && b) ≡ true
     both true b t e = e
     both false b t e = absurd t
 
@@ -47,7 +47,7 @@ names-late k h = in-range (λ (j : ℕ). all late (nameOf j)) 0 (length table) k
 -- no name stands at two places
 apart : List Row → Bool
 apart [] = true
-apart (o ∷ os) = and (eqb (place os (nameIn o)) (length os)) (apart os)
+apart (o ∷ os) = eqb (place os (nameIn o)) (length os) && apart os
 
 names-apart : T (apart table)
 unfolding table apart

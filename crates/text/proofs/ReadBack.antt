@@ -1,7 +1,7 @@
 -- Decimals read back: reading is the inverse of writing, both ways.
 -- Assumes nothing.
 use mathlib.Core.Path.{_≡_, refl, sym, ap, _∙_}
-use mathlib.Core.Bool.{Bool, true, false, cond, not}
+use mathlib.Core.Bool.{Bool, true, not}
 use mathlib.Core.List.{List, [], _∷_, _++_, append-nil}
 use Prim.Native.Nat.{ℕ, zero, suc, _+_, _-_, _*_, _/_, _%_, _≤_, _<_}
 use native.Mathlib.Nat.{le-refl}
@@ -9,22 +9,11 @@ use native.Mathlib.Omega.{arith}
 use native.Mathlib.Decide.{decLt}
 use lib.Dec.{T, leb, eqb, leb→le, le→leb}
 use lib.Seq.{append-snoc}
-use borrow.Author.Tests.{ne-eqb}
+use Rattle.base.proofs.Bools.{and-left, and-right, and-both, T-ne, ne-T}
+use Rattle.base.specs.Tests.{all}
 use Rattle.text.specs.Decimal.{decimal}
-use Rattle.text.specs.Number.{and, all, digit, natural, onto, value, lead, after, ends}
+use Rattle.text.specs.Number.{digit, natural, onto, value}
 use Rattle.text.proofs.Decimals.{decimal-small, decimal-more}
-
-pub and-left : (a b : Bool) → T (and a b) → T a
-and-left true b t = tt
-and-left false b t = t
-
-pub and-right : (a b : Bool) → T (and a b) → T b
-and-right true b t = t
-and-right false b t = absurd t
-
-pub and-both : (a b : Bool) → T a → T b → T (and a b)
-and-both true b s t = t
-and-both false b s t = s
 
 pub digit-low : (c : ℕ) → T (digit c) → 48 ≤ c
 digit-low c t = leb→le 48 c (and-left (leb 48 c) (leb c 57) t)
@@ -77,13 +66,6 @@ first c d =
     let e : 48 + (0 * 10 + (c - 48)) ≡ c = omega arith in
     decimal-small (0 * 10 + (c - 48)) (omega arith) ∙ ap (λ (x : ℕ). x ∷ []) e
 
-not-T-eqb : (a b : ℕ) → T (not (eqb a b)) → a ≡ b → ⊥
-not-T-eqb a b t e = bad (eqb a b) t (rw e (lib.Dec.eqb-refl b))
-  where
-    bad : (x : Bool) → T (not x) → T x → ⊥
-    bad true t u = t
-    bad false t u = u
-
 pub decimal-value : (t : List ℕ) → T (natural t) → decimal (value t) ≡ t
 decimal-value [] n = absurd n
 decimal-value (c ∷ []) n = first c n
@@ -91,16 +73,13 @@ decimal-value (c ∷ d ∷ t) n =
     let ds = and-right (not (eqb c 48)) (all digit (c ∷ d ∷ t)) n in
     let dc = and-left (digit c) (all digit (d ∷ t)) ds in
     let low = digit-low c dc in
-    let ne = not-T-eqb c 48 (and-left (not (eqb c 48)) (all digit (c ∷ d ∷ t)) n) in
+    let ne = T-ne c 48 (and-left (not (eqb c 48)) (all digit (c ∷ d ∷ t)) n) in
     decimal-onto (d ∷ t) (0 * 10 + (c - 48)) (omega arith) (and-right (digit c) (all digit (d ∷ t)) ds)
     ∙ ap (λ (l : List ℕ). l ++ (d ∷ t)) (first c dc)
 
 pub all-append : (f : ℕ → Bool) (a b : List ℕ) → T (all f a) → T (all f b) → T (all f (a ++ b))
 all-append f [] b p q = q
 all-append f (x ∷ a) b p q = and-both (f x) (all f (a ++ b)) (and-left (f x) (all f a) p) (all-append f a b (and-right (f x) (all f a) p) q)
-
-ne-T : (a b : ℕ) → (a ≡ b → ⊥) → T (not (eqb a b))
-ne-T a b n = rw (ne-eqb a b n) tt
 
 natural-snoc : (t : List ℕ) (d : ℕ) → T (natural t) → (t ≡ 48 ∷ [] → ⊥) → T (digit d) → T (natural (t ++ (d ∷ [])))
 natural-snoc [] d n z h = absurd n
@@ -129,26 +108,3 @@ pub natural-digits : (t : List ℕ) → T (natural t) → T (all digit t)
 natural-digits [] n = absurd n
 natural-digits (c ∷ []) n = and-both (digit c) true n tt
 natural-digits (c ∷ d ∷ t) n = and-right (not (eqb c 48)) (all digit (c ∷ d ∷ t)) n
-
--- two numbers with one text are one
-pub decimal-same : (m n : ℕ) → decimal m ≡ decimal n → m ≡ n
-decimal-same m n e = sym (value-decimal m) ∙ ap value e ∙ value-decimal n
-
--- a number in front of a text that does not begin with a digit
-span : (a r : List ℕ) → T (all digit a) → T (ends r) → (lead (a ++ r) ≡ a) × (after (a ++ r) ≡ r)
-span [] [] d e = (refl, refl)
-span [] (c ∷ t) d e = off (digit c) e
-  where
-    off : (b : Bool) → T (not b) → (cond b (c ∷ lead t) [] ≡ []) × (cond b (after t) (c ∷ t) ≡ c ∷ t)
-    off true e = absurd e
-    off false e = (refl, refl)
-span (x ∷ a) r d e = on (digit x) (and-left (digit x) (all digit a) d) (span a r (and-right (digit x) (all digit a) d) e)
-  where
-    on : (b : Bool) → T b → (lead (a ++ r) ≡ a) × (after (a ++ r) ≡ r) → (cond b (x ∷ lead (a ++ r)) [] ≡ x ∷ a) × (cond b (after (a ++ r)) (x ∷ (a ++ r)) ≡ r)
-    on true t i = (ap (λ (l : List ℕ). x ∷ l) (i .0), i .1)
-    on false t i = absurd t
-
-pub parse-back : (n : ℕ) (r : List ℕ) → T (ends r) → (value (lead (decimal n ++ r)) ≡ n) × (after (decimal n ++ r) ≡ r)
-parse-back n r e =
-    let s = span (decimal n) r (natural-digits (decimal n) (natural-decimal n)) e in
-    (ap value (s .0) ∙ value-decimal n, s .1)

@@ -8,15 +8,17 @@ use Prim.Native.Nat.{ℕ, suc, _<_}
 use native.Mathlib.Omega.{arith}
 use lib.Dec.{T, eqb, leb→le, lit<}
 use lib.ListN.{length}
+use Rattle.base.specs.Tests.{all}
+use Rattle.base.proofs.Bools.{and-left, and-right, and-both, T-true, clash}
 use Rattle.op.specs.Opcodes.{table}
 use Rattle.op.proofs.Listed.{known-row}
 use lib.IntN.{ℤ, pos, negsuc}
 use lib.Seq.{append-snoc}
 use borrow.Author.Tests.{ne-eqb}
 use Rattle.text.specs.Decimal.{decimal, wholeText}
-use Rattle.text.specs.Number.{all, digit, natural, value}
+use Rattle.text.specs.Number.{digit, natural, value}
 use Rattle.text.specs.Parts.{join, split}
-use Rattle.text.proofs.ReadBack.{natural-decimal, value-decimal, natural-digits, digit-low, and-left, and-right, and-both, all-append}
+use Rattle.text.proofs.ReadBack.{natural-decimal, value-decimal, natural-digits, digit-low, all-append}
 use Rattle.text.proofs.Splitting.{other, Free, AllFree, split-join, split-onto}
 use Rattle.op.specs.Names.{nameOf}
 use Rattle.text.specs.Reading.{same}
@@ -24,10 +26,6 @@ use Rattle.text.proofs.Opcodes.{named, late, names-late, yes-same}
 use Rattle.text.specs.Listing.{line}
 use Rattle.text.specs.Row.{Row, dash, wholeTexts, operandColumn, targetColumn, rowText}
 use Rattle.text.specs.Reading.{readWhole, readAll, readOperands, readTarget, readFields, readRow}
-
-T-true : (b : Bool) → T b → b ≡ true
-T-true true t = refl
-T-true false t = absurd t
 
 first-digit : (c : ℕ) (t : List ℕ) → T (natural (c ∷ t)) → eqb c 45 ≡ false
 first-digit c t n =
@@ -97,7 +95,7 @@ unfolding split
 dash-none = refl
 
 some-none {ℓ} : {A : Type ℓ} (a : A) → none ≡ some a → ⊥
-some-none a e = let y : _≡_ {A = ℕ} 0 1 = cc in omega arith
+some-none a e = clash cc
 
 pub operands-back : (zs : List ℤ) → readOperands (operandColumn zs) ≡ some zs
 operands-back [] = refl

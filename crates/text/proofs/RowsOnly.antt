@@ -1,19 +1,20 @@
 -- A text that is read as a row is that row's text.
 -- Assumes nothing.
 use mathlib.Core.Path.{_≡_, refl, sym, ap, _∙_, subst}
-use mathlib.Core.Bool.{Bool, true, false, cond, not}
+use mathlib.Core.Bool.{Bool, true, false, cond, not, _&&_}
 use mathlib.Core.List.{List, [], _∷_}
 use mathlib.Core.Option.{Option, none, some}
 use Prim.Native.Nat.{ℕ, suc, _-_, _<_}
 use native.Mathlib.Omega.{arith}
-use lib.Dec.{T, eqb}
+use lib.Dec.{eqb}
 use lib.ListN.{length}
+use Rattle.base.proofs.Bools.{true-T, and-true, clash}
 use Rattle.op.specs.Opcodes.{table, known}
 use Rattle.op.proofs.Listed.{known-row}
 use lib.IntN.{ℤ, pos, negsuc}
 use borrow.Author.Tests.{eqb-true, eqb-false, not-true}
 use Rattle.text.specs.Decimal.{decimal, wholeText}
-use Rattle.text.specs.Number.{and, natural, value}
+use Rattle.text.specs.Number.{natural, value}
 use Rattle.text.specs.Parts.{join, split}
 use Rattle.text.proofs.ReadBack.{decimal-value}
 use Rattle.text.proofs.Splitting.{join-split, split-some}
@@ -24,15 +25,7 @@ use Rattle.text.specs.Row.{Row, dash, wholeTexts, operandColumn, targetC
 use Rattle.text.specs.Reading.{onlyIf, positive, negative, readWhole, both, readAll, readOperands, present, readTarget, row, readFields, readRow}
 
 nothing {ℓ} : {A : Type ℓ} {a : A} → none ≡ some a → ⊥
-nothing {a} e = let y : _≡_ {A = ℕ} 0 1 = cc in omega arith
-
-yes-T : (b : Bool) → b ≡ true → T b
-yes-T true e = tt
-yes-T false e = let y : _≡_ {A = ℕ} 0 1 = cc in let z : ⊥ = omega arith in absurd z
-
-and-yes : (a b : Bool) → and a b ≡ true → (a ≡ true) × (b ≡ true)
-and-yes true b e = (refl, e)
-and-yes false b e = let y : _≡_ {A = ℕ} 0 1 = cc in let z : ⊥ = omega arith in absurd z
+nothing {a} e = clash cc
 
 only : {A : Type 0} (b : Bool) (a r : A) → onlyIf b a ≡ some r → (b ≡ true) × (a ≡ r)
 only true a r e = (refl, cc)
@@ -40,16 +33,16 @@ only false a r e = absurd (nothing e)
 
 negative-text : (t : List ℕ) (z : ℤ) → negative t ≡ some z → 45 ∷ t ≡ wholeText z
 negative-text t z e =
-    let o = only (and (natural t) (not (eqb (value t) 0))) (negsuc (value t - 1)) z e in
-    let a = and-yes (natural t) (not (eqb (value t) 0)) (o .0) in
+    let o = only (natural t && not (eqb (value t) 0)) (negsuc (value t - 1)) z e in
+    let a = and-true (natural t) (not (eqb (value t) 0)) (o .0) in
     let ne = eqb-false (value t) 0 (not-true (eqb (value t) 0) (a .1)) in
     let s : suc (value t - 1) ≡ value t = omega arith in
-    sym (ap wholeText (sym (o .1)) ∙ ap (λ (n : ℕ). 45 ∷ decimal n) s ∙ ap (λ (l : List ℕ). 45 ∷ l) (decimal-value t (yes-T (natural t) (a .0))))
+    sym (ap wholeText (sym (o .1)) ∙ ap (λ (n : ℕ). 45 ∷ decimal n) s ∙ ap (λ (l : List ℕ). 45 ∷ l) (decimal-value t (true-T (natural t) (a .0))))
 
 positive-text : (t : List ℕ) (z : ℤ) → positive t ≡ some z → t ≡ wholeText z
 positive-text t z e =
     let o = only (natural t) (pos (value t)) z e in
-    sym (ap wholeText (sym (o .1)) ∙ decimal-value t (yes-T (natural t) (o .0)))
+    sym (ap wholeText (sym (o .1)) ∙ decimal-value t (true-T (natural t) (o .0)))
 
 pub whole-text : (t : List ℕ) (z : ℤ) → readWhole t ≡ some z → t ≡ wholeText z
 whole-text [] z e = absurd (nothing e)
@@ -112,7 +105,7 @@ said a b c d r true e₁ true e₂ (some zs) e₃ (some z) e₄ e =
     let q : s ≡ r = cc in
     let k = known-row (opcodeOf b) .0 e₂ in
     subst (λ (x : Row). Said a b c d x) q
-    (record { offset-is = sym (decimal-value a (yes-T (natural a) e₁)); name-is = sym (read b k); known = k; operands-are = operands-text c zs e₃; target-is = target-text d z e₄ })
+    (record { offset-is = sym (decimal-value a (true-T (natural a) e₁)); name-is = sym (read b k); known = k; operands-are = operands-text c zs e₃; target-is = target-text d z e₄ })
 
 fields-text : (fs : List (List ℕ)) (r : Row) → readFields fs ≡ some r
     → (join 9 fs ≡ rowText r) × (r .opcode < length table)

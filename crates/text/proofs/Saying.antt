@@ -18,7 +18,7 @@ use Rattle.op.specs.declared.Refusal.{Refusal}
 use Rattle.op.specs.declared.Refusal.the-variants.{TooLarge, Full}
 use Rattle.op.specs.declared.Refusal.the-variants as R
 use Rattle.op.specs.declared.Table.the-variants.{Text}
-use Rattle.op.proofs.Keys.{in-range}
+use Rattle.base.proofs.Keys.{in-range}
 use Rattle.code.specs.Decode.{decode}
 use Rattle.code.specs.declared.Step.{Step}
 use Rattle.code.specs.declared.Step.the-variants as S

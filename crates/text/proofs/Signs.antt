@@ -12,6 +12,7 @@ use mir.Val.{SFits, toZ, ofZ}
 use mir.ValLaws.{toZ-ofZ}
 use borrow.Author.Tests.{ltb-true}
 use mathlib.Core.List.{_∷_}
+use Rattle.base.proofs.Bools.{clash}
 use Rattle.text.specs.Decimal.{decimal, wholeText, signText}
 
 up-fits : (n : ℕ) → n < 2 ^ 63 → SFits w64 (sucℤ (negsuc n))
@@ -53,7 +54,7 @@ pub record Kept (z : ℤ) : Type 0 where
   pub below : natAbs z < 2 ^ 64
 
 pub kept : (z : ℤ) → SFits w64 z → ltZ (toZ w64 (ofZ w64 z)) (pos 0) ≡ false → Kept z
-kept (negsuc n) f t = let e = toZ-ofZ w64 (negsuc n) f in let y = subst (λ (x : ℤ). ltZ x (pos 0) ≡ false) e t in let z : _≡_ {A = ℕ} 0 1 = cc in let o : ⊥ = omega arith in absurd o
+kept (negsuc n) f t = let e = toZ-ofZ w64 (negsuc n) f in let y = subst (λ (x : ℤ). ltZ x (pos 0) ≡ false) e t in clash cc
 kept (pos n) f t =
     let e = toZ-ofZ w64 (pos n) f in
     let h : n < 2 ^ 63 = f .sfits in
@@ -64,7 +65,7 @@ whole-neg (pos n) f t = let e = toZ-ofZ w64 (pos n) f in let z = ltb-true n 0 (s
 whole-neg (negsuc n) f t = refl
 
 whole-pos : (z : ℤ) → SFits w64 z → ltZ (toZ w64 (ofZ w64 z)) (pos 0) ≡ false → wholeText z ≡ decimal (natAbs z)
-whole-pos (negsuc n) f t = let e = toZ-ofZ w64 (negsuc n) f in let y = subst (λ (x : ℤ). ltZ x (pos 0) ≡ false) e t in let z : _≡_ {A = ℕ} 0 1 = cc in let o : ⊥ = omega arith in absurd o
+whole-pos (negsuc n) f t = let e = toZ-ofZ w64 (negsuc n) f in let y = subst (λ (x : ℤ). ltZ x (pos 0) ≡ false) e t in clash cc
 whole-pos (pos n) f t = refl
 
 -- the sign that the machine finds, and the magnitude, say the number

@@ -4,12 +4,11 @@ use mathlib.Core.Path.{_≡_, refl, sym, ap, _∙_}
 use mathlib.Core.Bool.{Bool, true, false, not}
 use mathlib.Core.List.{List, [], _∷_, _++_, append-nil}
 use Prim.Native.Nat.{ℕ}
-use native.Mathlib.Omega.{arith}
 use lib.Dec.{T, eqb}
 use borrow.Author.Tests.{eqb-true, eq-eqb}
-use Rattle.text.specs.Number.{all}
+use Rattle.base.specs.Tests.{all}
+use Rattle.base.proofs.Bools.{and-left, and-right, T-false, clash}
 use Rattle.text.specs.Parts.{cut, split, join, led}
-use Rattle.text.proofs.ReadBack.{and-left, and-right}
 
 -- no character of the text is s
 abbrev pub other : ℕ → ℕ → Bool
@@ -22,23 +21,19 @@ abbrev pub AllFree : ℕ → List (List ℕ) → Type 0
 AllFree s [] = Unit {0}
 AllFree s (p ∷ ps) = Free s p × AllFree s ps
 
-not-is : (b : Bool) → T (not b) → b ≡ false
-not-is true t = absurd t
-not-is false t = refl
-
 -- a part up to a separator, and the last part
 pub split-onto : (s : ℕ) (p t : List ℕ) → Free s p → split s (p ++ (s ∷ t)) ≡ p ∷ split s t
 unfolding split
 split-onto s [] t f = rw (eq-eqb s s refl)
 split-onto s (x ∷ p) t f =
-    let e = not-is (eqb x s) (and-left (other s x) (all (other s) p) f) in
+    let e = T-false (eqb x s) (and-left (other s x) (all (other s) p) f) in
     rw (e, split-onto s p t (and-right (other s x) (all (other s) p) f))
 
 pub split-last : (s : ℕ) (p : List ℕ) → Free s p → split s p ≡ p ∷ []
 unfolding split
 split-last s [] f = refl
 split-last s (x ∷ p) f =
-    let e = not-is (eqb x s) (and-left (other s x) (all (other s) p) f) in
+    let e = T-false (eqb x s) (and-left (other s x) (all (other s) p) f) in
     rw (e, split-last s p (and-right (other s x) (all (other s) p) f))
 
 pub split-join : (s : ℕ) (p : List ℕ) (ps : List (List ℕ)) → AllFree s (p ∷ ps) → split s (join s (p ∷ ps)) ≡ p ∷ ps
@@ -54,7 +49,7 @@ cut-join s x false e (p ∷ []) n = refl
 cut-join s x false e (p ∷ q ∷ ps) n = refl
 
 none : {p : List ℕ} {ps : List (List ℕ)} → p ∷ ps ≡ [] → ⊥
-none {p} {ps} e = let z : _≡_ {A = ℕ} 0 1 = cc in omega arith
+none {p} {ps} e = clash cc
 
 cut-some : (b : Bool) (x : ℕ) (ps : List (List ℕ)) → cut b x ps ≡ [] → ⊥
 cut-some true x ps e = none e

@@ -9,6 +9,7 @@ use native.Mathlib.Omega.{arith}
 use lib.Dec.{leb}
 use lib.ListN.{length, drop}
 use borrow.Author.Tests.{le-leb, lt-leb}
+use Rattle.base.proofs.Bools.{clash}
 use Rattle.op.specs.Names.{nameOf, nameText, nameStarts, nameBy}
 use Rattle.op.specs.Opcodes.{table, lastOpcode}
 use Rattle.op.specs.Shapes.{shapeOf, operandShape}
@@ -33,7 +34,7 @@ use Rattle.text.proofs.Lining.{line-of, fault-of, no-line}
 -- where a fault is, there is a byte
 pub faulted : (at : ℕ) (u : List ℕ) (r : Refusal) → decode lastOpcode at u ≡ S.Refused r → 0 < length u
 unfolding decode
-faulted at [] r e = let z : _≡_ {A = ℕ} 0 1 = cc in absurd (omega arith)
+faulted at [] r e = clash cc
 faulted at (k ∷ u) r e = omega arith
 
 -- the listing is its first line and the lines from 0 on

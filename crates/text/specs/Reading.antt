@@ -1,6 +1,6 @@
 -- A line of a listing read back: the row that a text says, where it is one. The rules only write them (R55).
 -- Assumes nothing.
-use mathlib.Core.Bool.{Bool, true, false, cond, not}
+use mathlib.Core.Bool.{Bool, true, false, cond, not, _&&_}
 use mathlib.Core.List.{List, [], _∷_}
 use mathlib.Core.Option.{Option, none, some}
 use Prim.Native.Nat.{ℕ, suc, _-_}
@@ -9,7 +9,7 @@ use lib.IntN.{ℤ, pos, negsuc}
 use Rattle.op.specs.Names.{nameIn}
 use Rattle.op.specs.Opcodes.{table, known}
 use Rattle.op.specs.Opcodes.{Row as Opcode}
-use Rattle.text.specs.Number.{and, natural, value}
+use Rattle.text.specs.Number.{natural, value}
 use Rattle.text.specs.Parts.{split}
 use Rattle.text.specs.Row.{Row, dash}
 
@@ -18,7 +18,7 @@ abbrev pub same : List ℕ → List ℕ → Bool
 same [] [] = true
 same [] (y ∷ t) = false
 same (x ∷ s) [] = false
-same (x ∷ s) (y ∷ t) = and (eqb x y) (same s t)
+same (x ∷ s) (y ∷ t) = eqb x y && same s t
 
 -- the place of a text among the names of opcodes, or their number where it is none of them
 abbrev pub place : List Opcode → List ℕ → ℕ
@@ -39,7 +39,7 @@ abbrev pub positive : List ℕ → Option ℤ
 positive t = onlyIf (natural t) (pos (value t))
 
 abbrev pub negative : List ℕ → Option ℤ
-negative t = onlyIf (and (natural t) (not (eqb (value t) 0))) (negsuc (value t - 1))
+negative t = onlyIf (natural t && not (eqb (value t) 0)) (negsuc (value t - 1))
 
 abbrev pub readWhole : List ℕ → Option ℤ
 readWhole [] = none

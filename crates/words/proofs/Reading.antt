@@ -1,7 +1,7 @@
 -- Laws of reading a text byte by byte.
 -- Assumes nothing.
-use mathlib.Core.Path.{_≡_, refl, sym, ap, _∙_}
-use mathlib.Core.Bool.{Bool, true, false, not}
+use mathlib.Core.Path.{_≡_, refl, sym, _∙_}
+use mathlib.Core.Bool.{Bool, true, false, _&&_}
 use mathlib.Core.List.{List, [], _∷_}
 use Prim.Native.Nat.{ℕ, suc, _+_, _-_, _*_, _≤_, _<_}
 use native.Mathlib.Numerals.{add-one}
@@ -11,7 +11,8 @@ use lib.Seq.{drop-cons}
 use native.Mathlib.Decide.{decLt}
 use lib.Dec.{leb, eqb}
 use borrow.Author.Tests.{eq-eqb, ne-eqb, eqb-true, eqb-false, lt-leb, le-leb}
-use Rattle.text.specs.Number.{and, all, digit, natural, onto, value}
+use Rattle.base.specs.Tests.{all}
+use Rattle.text.specs.Number.{digit, natural, onto, value}
 use Rattle.text.specs.Reading.{positive, negative, readWhole}
 use Rattle.words.specs.declared.Number.the-variants.{Is, Large}
 use Rattle.words.specs.declared.Signed.the-variants.{Not as NotWhole}
@@ -24,7 +25,7 @@ onto-on t i v h = rw (drop-cons t i 0) (rw add-one refl)
 pub onto-end : (t : List ℕ) (i v : ℕ) → length t ≤ i → onto v (drop i t) ≡ v
 onto-end t i v h = rw (drop-of-length-le t {i = i} h) refl
 
-pub all-on : (f : ℕ → Bool) (t : List ℕ) (i : ℕ) → i < length t → all f (drop i t) ≡ and (f (getD t i 0)) (all f (drop (i + 1) t))
+pub all-on : (f : ℕ → Bool) (t : List ℕ) (i : ℕ) → i < length t → all f (drop i t) ≡ (f (getD t i 0) && all f (drop (i + 1) t))
 all-on f t i h = rw (drop-cons t i 0) (rw add-one refl)
 
 pub all-end : (f : ℕ → Bool) (t : List ℕ) (i : ℕ) → length t ≤ i → all f (drop i t) ≡ true

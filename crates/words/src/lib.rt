@@ -1,6 +1,7 @@
 // Words as numbers. What a word says is `text`'s `natural`, `value` and `readWhole`, here in 64 bits; nothing requires anything.
 ghost use Prim.Native.Nat.{_+_, _-_, _*_};
-ghost use Rattle.text.specs.Number.{all, value};
+ghost use Rattle.base.specs.Tests.{all};
+ghost use Rattle.text.specs.Number.{value};
 ghost use Rattle.text.specs.Number.{digit as digitByte, natural as naturalText};
 ghost use Rattle.text.specs.Reading.{readWhole};
 ghost use Rattle.words.specs.Numbers.{fitted, numberOf, plusOf, minusOf, wholeOf};

@@ -1,8 +1,8 @@
 -- `api::tf_assert_flags` meets its contract: at each comparison's number the definition computes to its flags.
 -- Assumes nothing.
-use mathlib.Core.Path.{_≡_, _∙_, sym, ap}
+use mathlib.Core.Path.{_∙_}
 use native.Mathlib.Omega.{arith}
-use Rattle.op.proofs.Keys.{at, past}
+use Rattle.base.proofs.Keys.{at, past}
 use Rattle.api.specs.Given.{flagsGiven}
 use Rattle.api.proofs.Givens.{no-comparison}
 use borrow.Author.Needs.{needs}

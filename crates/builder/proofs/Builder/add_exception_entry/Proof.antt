@@ -1,7 +1,7 @@
 -- `builder::Builder::add_exception_entry` meets its contract: its tests are the definition's, and the lent part comes back with the row.
 -- Assumes nothing.
 use Prim.Native.Nat.{_*_, _+_, _≤_, ℕ}
-use Rattle.builder.proofs.Plans.{both}
+use Rattle.base.proofs.Bools.{and-true}
 use Rattle.code.proofs.Putting.{put-lent}
 use Rattle.builder.specs.Exceptions.{addExceptionOf, exceptionRow, offsetMax, offsetsFit}
 use Rattle.code.specs.Tables.{exceptionCells}
@@ -20,8 +20,8 @@ use Rattle.builder.proofs.Builder.add_exception_entry.Tie as tie
 small : (start end handler : ℕ) → offsetsFit start end handler ≡ true → (start ≤ offsetMax) × (end ≤ offsetMax) × (handler ≤ offsetMax)
 unfolding offsetsFit
 small start end handler e =
-    let p = both (leb start offsetMax && leb end offsetMax) (leb handler offsetMax) e in
-    let q = both (leb start offsetMax) (leb end offsetMax) (p .0) in
+    let p = and-true (leb start offsetMax && leb end offsetMax) (leb handler offsetMax) e in
+    let q = and-true (leb start offsetMax) (leb end offsetMax) (p .0) in
     (leb-true _ _ (q .0), leb-true _ _ (q .1), leb-true _ _ (p .1))
 
 returns : tie.Need-returns

@@ -4,7 +4,7 @@ use mathlib.Core.Path.{_∙_, ap}
 use Prim.Native.Nat.{ℕ}
 use native.Mathlib.Omega.{arith}
 use Rattle.op.specs.declared.Operand.the-variants.{U16, U16U16, U16U16U8}
-use Rattle.op.proofs.Keys.{at, past}
+use Rattle.base.proofs.Keys.{at, past}
 use Rattle.builder.specs.Numbered.{instructionOf}
 use Rattle.builder.specs.declared.numbered.Instruction.the-variants.{Is}
 use Rattle.builder.proofs.ByNumber.{no-call}

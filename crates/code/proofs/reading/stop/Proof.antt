@@ -1,7 +1,7 @@
 -- `code::reading::stop` meets its contract, case by case of the step.
 -- Assumes nothing.
 use mathlib.Core.Path.{sym, ap}
-use Rattle.code.specs.Reading.{stopped}
+use Rattle.code.specs.Inner.{stopped}
 use borrow.Author.Needs.{needs}
 use Rattle.code.proofs.reading.stop.Statement.{statement}
 use Rattle.code.proofs.reading.stop.Tie as tie

@@ -2,7 +2,7 @@
 -- Assumes nothing.
 use borrow.Author.Tests.{ne-eqb}
 use Rattle.op.specs.Effects.{deadMaker}
-use Rattle.op.proofs.Keys.{at}
+use Rattle.base.proofs.Keys.{at}
 use Rattle.op.proofs.effects.is_dead_maker.Statement.{statement}
 use Rattle.op.proofs.effects.is_dead_maker.Tie as tie
 

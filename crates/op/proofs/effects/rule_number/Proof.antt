@@ -1,8 +1,8 @@
 -- `op::effects::rule_number` meets its contract: in each arm the table computes to the arm's number, and past the arms to the default row's.
 -- Assumes nothing.
 use Rattle.op.specs.Opcodes.{rowOf, table}
-use Rattle.op.specs.Effects.{ruleNo}
-use Rattle.op.proofs.Keys.{at}
+use Rattle.op.specs.Inner.{ruleNo}
+use Rattle.base.proofs.Keys.{at}
 use Rattle.op.proofs.Listed.{no-row}
 use Rattle.op.proofs.effects.rule_number.Statement.{statement}
 use Rattle.op.proofs.effects.rule_number.Tie as tie

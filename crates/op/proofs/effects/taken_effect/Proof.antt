@@ -3,7 +3,7 @@
 use borrow.Author.Tests.{ne-eqb, lt-leb, le-leb}
 use Rattle.op.specs.Opcodes.{known}
 use Rattle.op.specs.Effects.{takenOf}
-use Rattle.op.proofs.Keys.{at}
+use Rattle.base.proofs.Keys.{at}
 use Rattle.op.proofs.effects.taken_effect.Statement.{statement}
 use Rattle.op.proofs.effects.taken_effect.Tie as tie
 

@@ -3,10 +3,10 @@
 use mathlib.Core.List.{[], _∷_, _++_}
 use Prim.Native.Nat.{ℕ}
 use native.Mathlib.Omega.{arith}
-use Rattle.op.proofs.Keys.{at, by-rest, upTo}
+use Rattle.base.proofs.Keys.{at, by-rest, upTo}
 use Rattle.op.proofs.Flagged.{isInvalid, invalid}
 use Rattle.op.specs.Flags.{decodedFlags}
-use Rattle.op.proofs.Keys.{at}
+use Rattle.base.proofs.Keys.{at}
 use Rattle.op.proofs.Flagged.{invalid}
 use Rattle.op.proofs.flags.decode_assert_flags.Statement.{statement}
 use Rattle.op.proofs.flags.decode_assert_flags.Tie as tie

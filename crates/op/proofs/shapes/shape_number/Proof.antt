@@ -1,8 +1,8 @@
 -- `op::shapes::shape_number` meets its contract: in each arm the table computes to the arm's number, and past the arms no opcode is known.
 -- Assumes nothing.
 use Rattle.op.specs.Opcodes.{known, rowOf, table}
-use Rattle.op.specs.Shapes.{shapeNo}
-use Rattle.op.proofs.Keys.{at}
+use Rattle.op.specs.Inner.{shapeNo}
+use Rattle.base.proofs.Keys.{at}
 use Rattle.op.proofs.Listed.{unknown}
 use Rattle.op.proofs.shapes.shape_number.Statement.{statement}
 use Rattle.op.proofs.shapes.shape_number.Tie as tie

@@ -1,16 +1,19 @@
--- Rows of a list by number, and members of a mapped list.
+-- Lists: elements by number, members of a mapped list, and cells of lists of numbers.
 -- Assumes nothing.
 use mathlib.Core.Path.{_≡_, refl, ap}
 use mathlib.Core.Logic.{_⊎_, inl, inr, _≢_}
 use mathlib.Core.List.{List, [], _∷_, _++_, map, List·Memᴰ as Mem, List·Memᴰ·head as mhead, List·Memᴰ·tail as mtail}
 use mathlib.Core.Option.{some}
 use Prim.Native.Nat.{ℕ, zero, suc, _+_, _<_}
+use native.Mathlib.Nat.{zero-add, suc-add, not-suc-le-zero, le-of-suc-le-suc}
 use native.Mathlib.Omega.{arith}
-use lib.ListN.{length, set, getElem?}
+use lib.ListN.{length, getD, take, drop, set, getElem?}
+use lib.Seq.{getD-drop}
+use Rattle.base.proofs.Bools.{clash}
 
 module _ {A : Type 0} where
   pub nth-left : (l m : List A) (k : ℕ) {a : A} → getElem? l k ≡ some a → getElem? (l ++ m) k ≡ some a
-  nth-left [] m k {a} h = absurd (let z : _≡_ {A = ℕ} 0 1 = cc in omega arith)
+  nth-left [] m k {a} h = clash cc
   nth-left (x ∷ l) m zero h = h
   nth-left (x ∷ l) m (suc k) h = nth-left l m k h
 
@@ -26,7 +29,7 @@ module _ {A : Type 0} where
       up (inr t) = inr (t .0, omega (arith, t .1), t .2)
 
   pub nth-lt : (l : List A) (k : ℕ) {a : A} → getElem? l k ≡ some a → k < length l
-  nth-lt [] k h = absurd (let z : _≡_ {A = ℕ} 0 1 = cc in omega arith)
+  nth-lt [] k h = clash cc
   nth-lt (x ∷ l) zero h = omega arith
   nth-lt (x ∷ l) (suc k) h = omega (arith, nth-lt l k h)
 
@@ -35,7 +38,7 @@ module _ {A : Type 0} where
   nth-seam (x ∷ l) a m = nth-seam l a m
 
   pub nth-set-same : (l : List A) (k : ℕ) (v : A) {a : A} → getElem? l k ≡ some a → getElem? (set l k v) k ≡ some v
-  nth-set-same [] k v h = absurd (let z : _≡_ {A = ℕ} 0 1 = cc in omega arith)
+  nth-set-same [] k v h = clash cc
   nth-set-same (x ∷ l) zero v h = refl
   nth-set-same (x ∷ l) (suc k) v h = nth-set-same l k v h
 
@@ -55,3 +58,25 @@ module _ {A B : Type 0} (f : A → B) where
   mem-map-inv [] m = elim m [ ]
   mem-map-inv (x ∷ l) {y} (mhead e) = (x, mhead refl, e)
   mem-map-inv (x ∷ l) {y} (mtail m) = let r = mem-map-inv l m in (r .0, mtail (r .1), r .2)
+
+-- cells of lists of numbers
+
+pub take-below : (n : ℕ) (l : List ℕ) → ((i : ℕ) → getD l i 0 < 256) → (i : ℕ) → getD (take n l) i 0 < 256
+take-below zero l b i = omega arith
+take-below (suc n) [] b i = omega arith
+take-below (suc n) (x ∷ l) b zero = b 0
+take-below (suc n) (x ∷ l) b (suc i) = take-below n l (λ (j : ℕ). b (suc j)) i
+
+pub drop-below : (n : ℕ) (l : List ℕ) → ((i : ℕ) → getD l i 0 < 256) → (i : ℕ) → getD (drop n l) i 0 < 256
+drop-below n l b i = omega (arith, getD-drop n l i 0, b (n + i))
+
+-- what stands outside the list is not read inside it
+pub getD-any : (c : List ℕ) (o a b : ℕ) → o < length c → getD c o a ≡ getD c o b
+getD-any [] o a b l = absurd (not-suc-le-zero l)
+getD-any (x ∷ c) zero a b l = refl
+getD-any (x ∷ c) (suc o) a b l = getD-any c o a b (le-of-suc-le-suc l)
+
+-- a store behind a beginning
+pub set-skip : (a l : List ℕ) (i v : ℕ) → set (a ++ l) (length a + i) v ≡ a ++ set l i v
+set-skip [] l i v = rw zero-add
+set-skip (x ∷ a) l i v = rw (suc-add (length a) i) (ap (λ (y : List ℕ). x ∷ y) (set-skip a l i v))

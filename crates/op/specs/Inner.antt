@@ -1,0 +1,48 @@
+-- Numbers of our own that op's private functions tell one another: no rule says them, and no reader has to believe them.
+-- Assumes nothing.
+use mathlib.Core.Bool.{cond}
+use mathlib.Core.List.{List, [], _∷_}
+use Prim.Native.Nat.{ℕ}
+use lib.ListN.{getD}
+use Rattle.op.specs.Opcodes.{Rule, minus3, minus2, minus1, same, plus1, plus2, minus-n, one-minus-n, one-minus-2n, n-minus-one, both, minus-both, one-minus-both, extended, format, assert, assert-failed, match-keys, known, rowOf}
+use Rattle.op.specs.Effects.{ruleIn}
+use Rattle.op.specs.Shapes.{shapeNumber, shapeIn}
+
+-- the number of an opcode's shape; 12 where there is no such opcode
+unfoldable pub shapeNo : ℕ → ℕ
+shapeNo k = cond (known k) (shapeNumber (shapeIn (rowOf k))) 12
+
+-- the number by which the code knows a rule
+abbrev pub ruleNumber : Rule → ℕ
+ruleNumber minus3 = 0
+ruleNumber minus2 = 1
+ruleNumber minus1 = 2
+ruleNumber same = 3
+ruleNumber plus1 = 4
+ruleNumber plus2 = 5
+ruleNumber minus-n = 6
+ruleNumber one-minus-n = 7
+ruleNumber one-minus-2n = 8
+ruleNumber n-minus-one = 9
+ruleNumber both = 10
+ruleNumber minus-both = 11
+ruleNumber one-minus-both = 12
+ruleNumber extended = 13
+ruleNumber format = 14
+ruleNumber assert = 15
+ruleNumber assert-failed = 16
+ruleNumber match-keys = 17
+
+-- the rules in the order of these numbers, without the last
+abbrev pub rules : List Rule
+rules =
+    minus3 ∷ minus2 ∷ minus1 ∷ same ∷ plus1 ∷ plus2 ∷ minus-n ∷ one-minus-n ∷ one-minus-2n ∷ n-minus-one ∷ both ∷
+    minus-both ∷ one-minus-both ∷ extended ∷ format ∷ assert ∷ assert-failed ∷ []
+
+-- the rule of a number
+abbrev pub ruleAt : ℕ → Rule
+ruleAt e = getD rules e match-keys
+
+-- the number of an opcode's rule
+unfoldable pub ruleNo : ℕ → ℕ
+ruleNo k = ruleNumber (ruleIn (rowOf k))
