@@ -72,8 +72,8 @@ pub kind-none : {A : Type 0} (t : KindIn) (none : A) (on : HandlerKind → A) �
 unfolding toldKind
 kind-none t none on e = rw e refl
 
-pub kind-is : {A : Type 0} (t : KindIn) (none : A) (on : HandlerKind → A) (k : HandlerKind) (x : A) → t ≡ K.Is k → x ≡ on k
-    → x ≡ toldKind t none on
+pub kind-is : {A : Type 0} (t : KindIn) (none : A) (on : HandlerKind → A) (k : HandlerKind) (x : A) → t ≡ K.Is k
+    → x ≡ on k → x ≡ toldKind t none on
 unfolding toldKind
 kind-is t none on k x e h = rw e h
 

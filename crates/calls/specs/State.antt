@@ -1,6 +1,6 @@
 -- The builder's state in 17 lent cells, both ways: 0 a call's value; 1 code, 2 locations, 3 marks, 4 depth;
--- 5 exceptions, 6 constants, 7 names, 8 starts; 9 whether a location is set, 10 its start, 11 its end; 12 whether it has
--- a focus, 13 its start, 14 its end; 15 and 16 are neither read nor written. The header says the same in words.
+-- 5 exceptions, 6 constants, 7 names, 8 starts; 9 whether a location is set, 10 its start, 11 its end; 12 whether it
+-- has a focus, 13 its start, 14 its end; 15 and 16 are neither read nor written. The header says the same in words.
 -- Assumes nothing.
 use mathlib.Core.Bool.{cond}
 use mathlib.Core.List.{List, [], _∷_}

@@ -59,7 +59,8 @@ returns-3 c =
     let after-depth-in = after-told .before .before in
     let else1 = after-depth-in .before in
     kept-enough _ _ _ _ _ _ _ (else1 .if1 .left)
-    (depth-is _ _ _ _ _ (sym (after-depth-in .depth-in .ensures) ∙ after-told .told .given .1) (after-new .new .ensures))
+    (depth-is _ _ _ _ _ (sym (after-depth-in .depth-in .ensures) ∙ after-told .told .given .1)
+    (after-new .new .ensures))
     (after-leave .leave .ensures)
 
 pub tfb-new-spec : {M : Type 1} → statement M
