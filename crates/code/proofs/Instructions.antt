@@ -1,5 +1,5 @@
--- Laws of the one reading: how it goes on by a step, and an induction along it. Who tells something of what is read uses these and
--- not the definition's text.
+-- Laws of the one reading: how it goes on by a step, and an induction along it. Who tells something of what is read uses
+-- these and not the definition's text.
 -- Assumes nothing.
 use mathlib.Core.Path.{_≡_, refl, sym, ap, subst, _∙_}
 use mathlib.Core.List.{List, [], _∷_}
@@ -39,7 +39,8 @@ module _ (last : ℕ) where
   enough zero m at u h g = sym (read-nothing m at u h)
   enough (suc n) zero at u h g = read-nothing (suc n) at u g
   enough (suc n) (suc m) at u h g =
-      same-rest (readUpTo last n) (readUpTo last m) at u (λ at′ v l. enough n m at′ v (omega arith) (omega arith)) (decode last at u) refl
+      same-rest (readUpTo last n) (readUpTo last m) at u (λ at′ v l. enough n m at′ v (omega arith) (omega arith))
+      (decode last at u) refl
 
   -- what is read is what the first step gives, and what is read behind it
   pub instructions-step : (at : ℕ) (u : List ℕ)

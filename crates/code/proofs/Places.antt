@@ -95,7 +95,8 @@ module _ (last : ℕ) (s : List ℕ) where
 
   -- the first is that offset
   come-here : (at : ℕ) → Comes at (readFrom last s at)
-  come-here = read-ind last s (λ at read. Comes at read) (λ at k o z e h. mhead refl) (λ at e. mhead refl) (λ at r e. mhead refl)
+  come-here =
+      read-ind last s (λ at read. Comes at read) (λ at k o z e h. mhead refl) (λ at e. mhead refl) (λ at r e. mhead refl)
 
   -- no other is less
   come-past : (at o : ℕ) → Comes o (readFrom last s at) → at ≤ o
@@ -105,7 +106,8 @@ module _ (last : ℕ) (s : List ℕ) where
       (λ at r e q m. let i = List·Memᴰ·eq-of-singleton m in omega arith)
 
   -- behind an instruction comes the next
-  come-next : (at o : ℕ) (f : Flow) → Comes o (readFrom last s at) → Stands last s o f → Comes (o + f .size) (readFrom last s at)
+  come-next : (at o : ℕ) (f : Flow) → Comes o (readFrom last s at) → Stands last s o f
+      → Comes (o + f .size) (readFrom last s at)
   come-next = read-ind last s (λ at read. (o : ℕ) (f : Flow) → Comes o read → Stands last s o f → Comes (o + f .size) read)
       (λ at k o z e h q f m w. ⊎-elim
       (λ i. (let j : q + f .size ≡ at + z = omega (arith, same-size k o z f e (moved i w)) in
@@ -145,7 +147,8 @@ module _ {last : ℕ} {s : List ℕ} where
   place-first = record { is = come-here last s 0 }
 
   pub place-next : {o q : ℕ} {f : Flow} → Place last s o → Stands last s o f → o + f .size ≡ q → Place last s q
-  place-next {o} {q} {f} p h e = record { is = subst (λ (x : ℕ). Comes x (readFrom last s 0)) e (come-next last s 0 o f (p .is) h) }
+  place-next {o} {q} {f} p h e =
+      record { is = subst (λ (x : ℕ). Comes x (readFrom last s 0)) e (come-next last s 0 o f (p .is) h) }
 
   -- what holds at 0, and behind each instruction if at it, holds at all places
   module _ (P : ℕ → Type 0) (none : P 0)
@@ -202,4 +205,5 @@ module _ {last : ℕ} {s : List ℕ} where
 
 -- a place under a table is one under a longer
 pub place-longer : {last last′ : ℕ} {s : List ℕ} {o : ℕ} → last ≤ last′ → Place last s o → Place last′ s o
-place-longer {last} {last′} {s} {o} l p = place-ind (Place last′ s) place-first (λ a q f p here h e. place-next here (stands-longer l h) e) o p
+place-longer {last} {last′} {s} {o} l p =
+    place-ind (Place last′ s) place-first (λ a q f p here h e. place-next here (stands-longer l h) e) o p

@@ -2,13 +2,12 @@
 -- Assumes nothing.
 use mathlib.Core.Path.{refl}
 use mathlib.Core.List.{List}
-use Prim.Native.Nat.{ℕ, _+_, _-_, _<_}
+use Prim.Native.Nat.{ℕ, _+_, _<_}
 use native.Mathlib.Omega.{arith}
 use lib.ListN.{getD}
 use lib.Signed.{mag}
 use mir.Syntax.{w8, w16}
 use Rattle.op.specs.Shapes.{operandShape}
-use Rattle.op.specs.Effects.{formerOf, lastOf}
 use Rattle.op.specs.declared.Operand.{Operand}
 use Rattle.op.specs.declared.Operand.the-variants as O
 use Rattle.op.specs.declared.Shape.{Shape}
@@ -55,18 +54,3 @@ module _ (u : List ℕ) (bytes : (i : ℕ) → getD u i 0 < 256) where
   -- what is read from bytes is in range
   pub decoded-range : {last : ℕ} (k : ℕ) (o : Operand) (z : ℕ) → Decoded last u k o z → InRange o
   decoded-range k o z d = rw (d .operand) (in-range (operandShape o))
-
--- and so are the two numbers that effects go by
-pub operand-small : (o : Operand) → InRange o → (formerOf o < 256) × (lastOf o < 65536)
-operand-small O.None h = (omega arith, omega arith)
-operand-small (O.U8 a) h = (omega arith, omega arith)
-operand-small (O.I8 z) h = (omega arith, omega arith)
-operand-small (O.U16 a) h = (omega arith, omega arith)
-operand-small (O.Offset z) h = (omega arith, omega arith)
-operand-small (O.U8U8 a b) h = (omega arith, omega arith)
-operand-small (O.U16U8 a b) h = (omega arith, omega arith)
-operand-small (O.U16U16 a b) h = (omega arith, omega arith)
-operand-small (O.U16U8U8 a b c) h = (omega arith, omega arith)
-operand-small (O.CallKw positional names) h = (omega arith, omega arith)
-operand-small (O.CallAttrKw attribute positional names) h = (omega arith, omega arith)
-operand-small (O.U16U16U8 a b c) h = (omega arith, omega arith)

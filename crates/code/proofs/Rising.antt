@@ -50,10 +50,3 @@ module _ (cells : List ℕ) (x : ℕ) (rising : Rising cells) where
   unfolding locationOf firstGreater
   location-rising small =
       rw (le-ltb largestU32 x small) (before-first (firstGreater cells x) (is-first (greater cells x) (locationCount cells)))
-
--- there is only one such answer
-module _ (cells : List ℕ) (x : ℕ) where
-  last-one : (i j : ℕ) → LastAtMost cells x i → LastAtMost cells x j → i ≤ j
-  last-one i j a b =
-      let above : j < i → ⊥ = λ lt. omega (arith, b .later i lt (a .inside)) in
-      omega arith

@@ -1,6 +1,6 @@
--- A code read from its start, one instruction behind the other, to its end or its first fault: R14, R18 and R48. Whoever
--- counts, lists or checks instructions, or reads them back, does it through the one definition here, `instructionsIn`.
--- The table of opcodes is told by its last opcode, `last`.
+-- A code read from its start, one instruction behind the other, to its end or its first fault: R14, R18 and R48.
+-- Whoever counts, lists or checks instructions, or reads them back, does it through the one definition here,
+-- `instructionsIn`. The table of opcodes is told by its last opcode, `last`.
 -- Assumes nothing.
 use mathlib.Core.List.{List, [], _∷_, _++_, map}
 use mathlib.Core.Option.{Option, some, none}

@@ -79,7 +79,8 @@ pub record Demand (w w′ : World) (h : History) : Type 0 where
   pub unchanged : (w′ .state ≡ w .state) × (w′ .code ≡ w .code) × (w′ .starts ≡ w .starts)
   -- "reading the finished bytes gives exactly the instructions accepted while live, in order, each jump with its final
   -- displacement"
-  pub reads : instructionsIn lastOpcode (finished w′) ≡ record { spots = program (h .rows); stop = length (finished w′); fault = none }
+  pub reads : instructionsIn lastOpcode (finished w′)
+      ≡ record { spots = program (h .rows); stop = length (finished w′); fault = none }
   -- every jump has its place: none waits for its label
   pub settled : (r : Row isa) → List·Memᴰ r (h .rows) → (k l : ℕ) → r .what ≡ leap k (waits l) → ⊥
   -- the starts are a live new builder's and the regions' opened, no others

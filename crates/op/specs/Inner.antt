@@ -1,4 +1,4 @@
--- Numbers of our own that op's private functions tell one another: no rule says them, and no reader has to believe them.
+-- Numbers of our own that op's private functions tell each other: no rule says them, and no reader has to believe them.
 -- Assumes nothing.
 use mathlib.Core.Bool.{cond}
 use mathlib.Core.List.{List, [], _∷_}
