@@ -30,18 +30,18 @@ use Rattle.text.specs.Listing.{most, header, faultLine, firstLine, lineO
 use Rattle.text.proofs.Lining.{line-of, fault-of, no-line}
 
 -- one line, and what is behind it
-one-more : (n at : ℕ) (u : List ℕ) (s : Step) → decode lastOpcode at u ≡ s
+pub one-more : (n at : ℕ) (u : List ℕ) (s : Step) → decode lastOpcode at u ≡ s
     → linesOf (suc n) at u ≡ lineOf nameOf at u ++ behind (linesOf n) at u s
 unfolding linesOf
 one-more n at u s e = ap (λ (x : Step). lineOf nameOf at u ++ behind (linesOf n) at u x) e
 
 -- nothing at the end
-lines-end : (n at : ℕ) (u : List ℕ) → decode lastOpcode at u ≡ S.End → linesOf n at u ≡ []
+pub lines-end : (n at : ℕ) (u : List ℕ) → decode lastOpcode at u ≡ S.End → linesOf n at u ≡ []
 unfolding linesOf
 lines-end zero at u e = refl
 lines-end (suc n) at u e = one-more n at u S.End e ∙ append-nil (lineOf nameOf at u) ∙ no-line nameOf at u e
 
-end-here : (at : ℕ) (u : List ℕ) → length u ≤ 0 → decode lastOpcode at u ≡ S.End
+pub end-here : (at : ℕ) (u : List ℕ) → length u ≤ 0 → decode lastOpcode at u ≡ S.End
 unfolding decode
 end-here at [] h = refl
 end-here at (k ∷ u) h = let z : ⊥ = omega arith in absurd z
@@ -59,7 +59,7 @@ fuel-step n m at u h g f (S.Instr k o z) e =
 fuel-step n m at u h g f S.End e = lines-end (suc n) at u e ∙ sym (lines-end (suc m) at u e)
 fuel-step n m at u h g f (S.Refused r) e = one-more n at u (S.Refused r) e ∙ sym (one-more m at u (S.Refused r) e)
 
-fuel : (n m at : ℕ) (u : List ℕ) → length u ≤ n → length u ≤ m → linesOf n at u ≡ linesOf m at u
+pub fuel : (n m at : ℕ) (u : List ℕ) → length u ≤ n → length u ≤ m → linesOf n at u ≡ linesOf m at u
 fuel zero m at u h g = lines-end zero at u (end-here at u h) ∙ sym (lines-end m at u (end-here at u h))
 fuel (suc n) zero at u h g = lines-end (suc n) at u (end-here at u g) ∙ sym (lines-end zero at u (end-here at u g))
 fuel (suc n) (suc m) at u h g = fuel-step n m at u h g (λ at′ v p q. fuel n m at′ v p q) (decode lastOpcode at u) refl
