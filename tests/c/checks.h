@@ -24,9 +24,16 @@ static void value(const char *what, tf_answer answer, int32_t expected)
     report(what, tf_refusal(answer) == 0 && tf_value(answer) == expected);
 }
 
+/* A refusal and what it names. */
+static void refusal_of(const char *what, tf_answer answer, uint32_t expected, int32_t named)
+{
+    report(what, tf_refusal(answer) == expected && tf_value(answer) == named);
+}
+
+/* 18 is about what is written to; any other names nothing. */
 static void refusal(const char *what, tf_answer answer, uint32_t expected)
 {
-    report(what, tf_refusal(answer) == expected && tf_value(answer) == 0);
+    refusal_of(what, answer, expected, expected == TF_FULL ? TF_TABLE_TEXT : 0);
 }
 
 /* The counts, and the exit status. */

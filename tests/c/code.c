@@ -39,6 +39,13 @@ static void refused(const char *what, tf_answer answer, uint32_t expected)
     report(what, untouched(0));
 }
 
+/* 1 or 22, which name the offset. */
+static void refused_at(const char *what, tf_answer answer, uint32_t expected, int32_t offset)
+{
+    refusal_of(what, answer, expected, offset);
+    report(what, untouched(0));
+}
+
 /* A call that writes so many numbers to the front, and no other cell. */
 static void wrote(const char *what, tf_answer answer, const uint64_t *expected, int count)
 {
@@ -54,6 +61,9 @@ static void step(const char *what, const uint8_t *code, size_t length, size_t at
     wrote(what, tf_step(code, length, at, fresh(), TF_STEP_CELLS), expected, TF_STEP_CELLS);
     refused(what, tf_step(code, length, at, fresh(), TF_STEP_CELLS - 1), TF_FULL);
 }
+
+/* Code that is too long to list and to count. */
+static uint8_t long_code[1048577];
 
 /* The document's nine bytes. */
 static const uint8_t nine[] = {0x06, 0x5A, 0x03, 0x00, 0x08, 0x07, 0x00, 0x05, 0x65};
@@ -112,17 +122,17 @@ static void keyword_call(void)
                           (uint16_t)expected[TF_STEP_B], (uint8_t)expected[TF_STEP_C], (uint8_t)expected[TF_STEP_NAMES]),
           -5);
     for (size_t length = 2; length < 8; length++)
-        refused("a keyword call cut short", tf_step(code, length, 1, fresh(), CELLS), TF_CUT_SHORT);
+        refused_at("a keyword call cut short", tf_step(code, length, 1, fresh(), CELLS), TF_CUT_SHORT, 1);
 }
 
 static void damaged(void)
 {
     static const uint8_t unknown[] = {TF_OP_POP, NO_OPCODE, 255};
-    refused("131 in the code", tf_step(unknown, sizeof unknown, 1, fresh(), CELLS), TF_UNKNOWN_OPCODE);
-    refused("255 in the code", tf_step(unknown, sizeof unknown, 2, fresh(), CELLS), TF_UNKNOWN_OPCODE);
-    refused("the nine bytes cut within the jump", tf_step(nine, 3, 1, fresh(), CELLS), TF_CUT_SHORT);
-    refused("1 comes before 18", tf_step(unknown, sizeof unknown, 1, NULL, 0), TF_UNKNOWN_OPCODE);
-    refused("22 comes before 18", tf_step(nine, 3, 1, NULL, 0), TF_CUT_SHORT);
+    refused_at("131 in the code", tf_step(unknown, sizeof unknown, 1, fresh(), CELLS), TF_UNKNOWN_OPCODE, 1);
+    refused_at("255 in the code", tf_step(unknown, sizeof unknown, 2, fresh(), CELLS), TF_UNKNOWN_OPCODE, 2);
+    refused_at("the nine bytes cut within the jump", tf_step(nine, 3, 1, fresh(), CELLS), TF_CUT_SHORT, 1);
+    refused_at("1 comes before 18", tf_step(unknown, sizeof unknown, 1, NULL, 0), TF_UNKNOWN_OPCODE, 1);
+    refused_at("22 comes before 18", tf_step(nine, 3, 1, NULL, 0), TF_CUT_SHORT, 1);
     refused("no room", tf_step(nine, sizeof nine, 0, NULL, 0), TF_FULL);
 }
 
@@ -133,7 +143,7 @@ static void written(const char *what, uint8_t opcode, uint8_t shape, uint16_t a,
     uint8_t out[600], wanted[600];
     memset(out, '#', sizeof out);
     memset(wanted, '#', sizeof wanted);
-    refusal(what, tf_write(out, size - 1, opcode, shape, a, b, c, names, count), TF_FULL);
+    refusal_of(what, tf_write(out, size - 1, opcode, shape, a, b, c, names, count), TF_FULL, TF_TABLE_CODE);
     report(what, memcmp(out, wanted, sizeof wanted) == 0);
     memcpy(wanted, expected, size);
     value(what, tf_write(out, size, opcode, shape, a, b, c, names, count), (int32_t)size);
@@ -166,7 +176,7 @@ static void writing(void)
     refusal("256 in a byte", tf_write(out, sizeof out, TF_OP_LOAD_LOCAL, TF_SHAPE_U8, 256, 0, 0, NULL, 0), TF_WRONG_SHAPE);
     refusal("Pop with a name", tf_write(out, sizeof out, TF_OP_POP, TF_SHAPE_NONE, 0, 0, 0, names, 1), TF_WRONG_SHAPE);
     refusal("2 before 18", tf_write(NULL, 0, TF_OP_POP, TF_SHAPE_U8, 0, 0, 0, NULL, 0), TF_WRONG_SHAPE);
-    refusal("no room", tf_write(NULL, 0, TF_OP_POP, TF_SHAPE_NONE, 0, 0, 0, NULL, 0), TF_FULL);
+    refusal_of("no room", tf_write(NULL, 0, TF_OP_POP, TF_SHAPE_NONE, 0, 0, 0, NULL, 0), TF_FULL, TF_TABLE_CODE);
     for (size_t i = 0; i < sizeof out; i++)
         if (out[i] != '#')
             report("a refusal writes nothing", 0);
@@ -193,15 +203,75 @@ static void depths(void)
     report("no bytes", checked("", 0, NULL, 0, depth) == 0 && depth[0] == TF_NO_DEPTH && depth[1] == 77);
     report("a start inside", tf_refusal(checked(nine, 9, inside, 2, depth)) == TF_BAD_STARTS && depth[0] == 77);
     report("an odd list", tf_refusal(checked(nine, 9, zero, 1, depth)) == TF_BAD_STARTS && depth[0] == 77);
-    report("cut short", tf_refusal(checked(nine, 3, zero, 2, depth)) == TF_CUT_SHORT && depth[0] == 77);
-    report("no opcode", tf_refusal(checked("\x05\x83", 2, zero, 2, depth)) == TF_UNKNOWN_OPCODE && depth[0] == 77);
+    refusal_of("cut short", checked(nine, 3, zero, 2, depth), TF_CUT_SHORT, 1);
+    report("cut short", depth[0] == 77);
+    refusal_of("no opcode", checked("\x05\x83", 2, zero, 2, depth), TF_UNKNOWN_OPCODE, 1);
+    report("no opcode", depth[0] == 77);
+    refusal_of("counted up to it", tf_count_instructions((const uint8_t *)"\x05\x05\x83", 3), TF_UNKNOWN_OPCODE, 2);
+    refusal("too long to count", tf_count_instructions(long_code, sizeof long_code), TF_TOO_LARGE);
     report("too few depths", tf_refusal(tf_check((const uint8_t *)nine, 9, zero, 2, depth, 9)) == TF_SHORT_DEPTHS);
+}
+
+/* All parts of a listing with so much room each, checked where depths are given, and whether no byte behind a part changes. */
+static size_t listed(const uint8_t *code, size_t length, const uint32_t *depth, size_t room, char *all)
+{
+    uint8_t text[300];
+    uint64_t told[TF_LIST_CELLS] = {0, 0};
+    size_t size = 0;
+    for (;;) {
+        memset(text, '#', sizeof text);
+        size_t from = (size_t)told[TF_LIST_NEXT];
+        tf_answer answer = depth == NULL ? tf_list(code, length, from, text, room, told, TF_LIST_CELLS)
+                                         : tf_check_listing(code, length, depth, length + 1, from, text, room, told, TF_LIST_CELLS);
+        size_t used = answer == 1 ? (size_t)told[TF_LIST_LENGTH] : 0;
+        for (size_t i = used; i < sizeof text; i++)
+            if (text[i] != '#')
+                report("bytes behind a part", 0);
+        if (answer != 1) {
+            value("the end of a listing", answer, 0);
+            return size;
+        }
+        memcpy(all + size, text, used);
+        size += used;
+    }
+}
+
+static void listings(void)
+{
+    static const char plain[] = "offset\tname\toperands\ttarget\n0\tLoadTrue\t-\t-\n1\tJumpIfFalse\t3\t7\n4\tLoadSmallInt\t7\t-\n"
+                                "6\tPop\t-\t-\n7\tLoadNone\t-\t-\n8\tReturnValue\t-\t-\n";
+    static const char depths[] = "depth\toffset\tname\toperands\ttarget\n0\t0\tLoadTrue\t-\t-\n1\t1\tJumpIfFalse\t3\t7\n"
+                                 "0\t4\tLoadSmallInt\t7\t-\n1\t6\tPop\t-\t-\n0\t7\tLoadNone\t-\t-\n1\t8\tReturnValue\t-\t-\n-\t9\tend\t-\t-\n";
+    static const uint32_t zero[] = {0, 0};
+    uint32_t depth[10];
+    uint64_t told[TF_LIST_CELLS] = {0, 0};
+    uint8_t text[28];
+    char all[600];
+    report("the nine bytes are accepted", tf_check(nine, sizeof nine, zero, 2, depth, 10) == 6);
+    for (size_t room = 35; room < 300; room += 13) {
+        size_t size = listed(nine, sizeof nine, NULL, room, all);
+        report("the listing in parts", size == sizeof plain - 1 && memcmp(all, plain, size) == 0);
+        size = listed(nine, sizeof nine, depth, room, all);
+        report("the checked listing in parts", size == sizeof depths - 1 && memcmp(all, depths, size) == 0);
+    }
+    refusal("no room for the header", tf_list(nine, sizeof nine, 0, text, 27, told, TF_LIST_CELLS), TF_FULL);
+    value("room for the header alone", tf_list(nine, sizeof nine, 0, text, 28, told, TF_LIST_CELLS), 1);
+    report("then the cursor is 1", told[TF_LIST_LENGTH] == 28 && told[TF_LIST_NEXT] == 1);
+    refusal("no cells", tf_list(nine, sizeof nine, 0, text, 28, told, 1), TF_FULL);
+    refusal("too few depths", tf_check_listing(nine, sizeof nine, depth, 9, 0, text, 28, told, TF_LIST_CELLS), TF_SHORT_DEPTHS);
+    value("past the end", tf_list(nine, sizeof nine, SIZE_MAX, text, 28, told, TF_LIST_CELLS), 0);
+    report("a fault is the last line", listed((const uint8_t *)"\x05\x83\x05", 3, NULL, 35, all) == 28 + 15 + 6);
+    report("and says where", memcmp(all + 43, "!\t1\t1\n", 6) == 0);
+    value("too long", tf_list(long_code, 65537, 0, text, 28, told, TF_LIST_CELLS), 1);
+    report("is one line", told[TF_LIST_LENGTH] == 7 && memcmp(text, "!\t0\t10\n", 7) == 0);
+    value("and no other", tf_list(long_code, 65537, (size_t)told[TF_LIST_NEXT], text, 28, told, TF_LIST_CELLS), 0);
 }
 
 static void handlers(void)
 {
     /* the document's example: 2..8 to 20, 0..10 to 30; behind them a part of a row */
     static const uint32_t rows[] = {2, 8, 20, 1, 0, 0, 0, 10, 30, 5, 6, 1, 0, 100, 40};
+    static const uint32_t deep[] = {2, 8, 20, 1, 0, 0, 0, 10, 30, 65536, 6, 1};
     static const uint64_t inner[] = {0, 2, 8, 20, 1, 0, 0}, outer[] = {1, 0, 10, 30, 5, 6, 1};
     const size_t length = sizeof rows / sizeof rows[0];
     wrote("offset 1", tf_find_exception_handler(rows, length, 1, fresh(), CELLS), outer, TF_ROW_CELLS);
@@ -212,6 +282,12 @@ static void handlers(void)
     nothing("offset 10 wants no room", tf_find_exception_handler(rows, length, 10, NULL, 0));
     nothing("no rows", tf_find_exception_handler(NULL, 0, 1, fresh(), CELLS));
     refused("too little room", tf_find_exception_handler(rows, length, 2, fresh(), TF_ROW_CELLS - 1), TF_FULL);
+    wrote("two records, offset 7", tf_find_in_two(rows, length, 7, fresh(), CELLS), inner, TF_ROW_CELLS);
+    wrote("two records, offset 8", tf_find_in_two(rows, 12, 8, fresh(), TF_ROW_CELLS), outer, TF_ROW_CELLS);
+    nothing("two records, offset 10", tf_find_in_two(rows, length, 10, fresh(), CELLS));
+    refused("two records without room", tf_find_in_two(rows, 12, 8, fresh(), TF_ROW_CELLS - 1), TF_FULL);
+    refused("one record and a part", tf_find_in_two(rows, 11, 7, fresh(), CELLS), TF_UNSOUND);
+    refused("a depth of 65,536", tf_find_in_two(deep, 12, 7, fresh(), CELLS), TF_UNSOUND);
     report("the handler's offset has a name", inner[TF_HANDLER_OFFSET] == 20 && outer[TF_HANDLER_KIND] == 1);
 }
 
@@ -252,6 +328,7 @@ int main(void)
     damaged();
     writing();
     depths();
+    listings();
     handlers();
     locations();
     constants_and_names();
