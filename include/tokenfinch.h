@@ -163,8 +163,8 @@ tf_answer tf_instruction_size(uint8_t opcode, uint8_t names);
 tf_answer tf_opcode_name(uint8_t opcode, uint8_t *out, size_t room);
 
 /* How many instructions length bytes of code are, read one behind the other from the first byte to the last.
- * Refuses: 10 for over 1,048,576 bytes; 1 and 22 where the reading stops at a byte that is no opcode, or at an
- * instruction that is cut short. */
+ * Refuses: 10 for over 1,048,576 bytes; 1 and 22, with the offset, where the reading stops at a byte that is no opcode, or at
+ * an instruction that is cut short. */
 tf_answer tf_count_instructions(const uint8_t *code, size_t length);
 
 /* The comparisons of Assert and AssertFailed, in op.rs's numbers. */
@@ -236,9 +236,41 @@ enum { TF_NO_DEPTH = 65536 };
  * how many instructions have a depth. The first length + 1 elements of depths, which has room elements, then hold the
  * depth before the instruction at each offset, the last of them the depth at the code's end, and TF_NO_DEPTH elsewhere; on 23 they
  * all hold TF_NO_DEPTH. Any other refusal writes nothing, and no later element is ever written.
- * Refuses, in this order: 10, 21, 1 or 22 (tf_step finds the offset), 20, 23. */
+ * Refuses, in this order: 10, 21, 1 or 22 with the offset, 20, 23. */
 tf_answer tf_check(const uint8_t *code, size_t length, const uint32_t *starts, size_t start_cells, uint32_t *depths,
                    size_t room);
+
+/* ---- Listings
+ *
+ * A listing is made part by part: each call puts as many whole lines as text has room for to its front. The first cursor is 0.
+ * Where there was a line the value is 1, and two numbers are written to told, which has told_room elements:
+ */
+enum {
+    TF_LIST_LENGTH = 0, /* how many bytes of text hold the lines */
+    TF_LIST_NEXT = 1,   /* the cursor from which the next call goes on */
+    TF_LIST_CELLS = 2
+};
+
+/* A part of the listing of length bytes of code: a header, then a line for each instruction with its offset, name, operands
+ * in byte order and a jump's target, parted by tabs; a fault's line (`!`, offset, refusal) is the last, and of over 65,536
+ * bytes the only one. The parts of all calls, one behind the other, are the listing, whatever room each had:
+ *
+ *     uint64_t told[TF_LIST_CELLS] = {0, 0};
+ *     while (tf_list(code, length, told[TF_LIST_NEXT], text, sizeof text, told, TF_LIST_CELLS) == 1)
+ *         fwrite(text, 1, told[TF_LIST_LENGTH], stdout);
+ *
+ * Value 0 where no line is left; nothing is written then.
+ * Refuses: 18 where told has fewer than TF_LIST_CELLS elements, and where text has no room for the next line (2,048 bytes are
+ * room for any). A refusal writes nothing. */
+tf_answer tf_list(const uint8_t *code, size_t length, size_t from, uint8_t *text, size_t room, uint64_t *told,
+                  size_t told_room);
+
+/* The same of checked code, with the depth that tf_check left for it in front of each line, `-` where there is none, and a
+ * last line for the code's end. depths has cells elements.
+ * Refuses: 18 as tf_list for told; 10 over 1,048,576 bytes; 21 where depths has fewer than length + 1 elements; then 18 for
+ * text. A refusal writes nothing. */
+tf_answer tf_check_listing(const uint8_t *code, size_t length, const uint32_t *depths, size_t cells, size_t from,
+                           uint8_t *text, size_t room, uint64_t *told, size_t told_room);
 
 /* ---- Lookups in the tables of compiled code
  *
@@ -266,6 +298,11 @@ tf_answer tf_location_for_offset(const uint32_t *rows, size_t length, size_t off
 /* The first row of the exception table, in their order, with start <= offset < end. Value 0 where there is none.
  * Refuses: 18 where a row is found and out has fewer than TF_ROW_CELLS elements. */
 tf_answer tf_find_exception_handler(const uint32_t *rows, size_t length, uint32_t offset, uint64_t *out, size_t room);
+
+/* The same over two records, of which rows holds the twelve numbers: which of them, 0 or 1, and its six numbers.
+ * Refuses: 19 where there are fewer than 12 numbers, or one of the two has a depth or a count over 65,535 or a kind over 1;
+ * then 18 as above. */
+tf_answer tf_find_in_two(const uint32_t *rows, size_t length, uint32_t offset, uint64_t *out, size_t room);
 
 /* Writes the constant of that index to out[0]. Value 1, or 0 at and past the end of the constants.
  * Refuses: 18 where there is one and room is 0. */

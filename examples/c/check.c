@@ -51,48 +51,14 @@ static long target(size_t at, const uint64_t cell[TF_STEP_CELLS])
     return (long)at + 3 + (cell[TF_STEP_A] < 32768 ? (long)cell[TF_STEP_A] : (long)cell[TF_STEP_A] - 65536);
 }
 
-static void print_line(const uint8_t *code, size_t at, const uint64_t cell[TF_STEP_CELLS])
-{
-    uint8_t name[32];
-    int length = (int)tf_value(tf_opcode_name((uint8_t)cell[TF_STEP_OPCODE], name, sizeof name));
-    printf("%zu\t%.*s\t", at, length, (const char *)name);
-    print_operands(code, cell);
-    if (cell[TF_STEP_SHAPE] == TF_SHAPE_OFFSET)
-        printf("\t%ld\n", target(at, cell));
-    else
-        printf("\t-\n");
-}
-
-static void print_depth(uint32_t depth)
-{
-    if (depth == TF_NO_DEPTH)
-        printf("-\t");
-    else
-        printf("%u\t", (unsigned)depth);
-}
-
-/* The whole listing of code that the check has accepted. */
+/* The whole listing of code that the check has accepted: the library's bytes, handed on unread. */
 static void print_all(const uint8_t *code, size_t length, const uint32_t *depths)
 {
-    uint64_t cell[TF_STEP_CELLS];
-    size_t at = 0;
-    printf("depth\toffset\tname\toperands\ttarget\n");
-    for (; tf_step(code, length, at, cell, TF_STEP_CELLS) == 1; at += (size_t)cell[TF_STEP_SIZE]) {
-        print_depth(depths[at]);
-        print_line(code, at, cell);
-    }
-    print_depth(depths[at]);
-    printf("%zu\tend\t-\t-\n", at);
-}
-
-/* Where reading stops: 1 and 22 are about the instruction there. */
-static size_t stop(const uint8_t *code, size_t length)
-{
-    uint64_t cell[TF_STEP_CELLS];
-    size_t at = 0;
-    while (tf_step(code, length, at, cell, TF_STEP_CELLS) == 1)
-        at += (size_t)cell[TF_STEP_SIZE];
-    return at;
+    static uint8_t text[65536];
+    uint64_t told[TF_LIST_CELLS] = {0, 0};
+    while (tf_check_listing(code, length, depths, length + 1, (size_t)told[TF_LIST_NEXT], text, sizeof text, told,
+                            TF_LIST_CELLS) == 1)
+        fwrite(text, 1, (size_t)told[TF_LIST_LENGTH], stdout);
 }
 
 /* Following the starts through refused code: the depth at each place that was reached, and where the path came from. */
@@ -201,7 +167,7 @@ static int check(const uint8_t *code, size_t length, const uint32_t *starts, siz
         return 0;
     }
     if (refusal == TF_UNKNOWN_OPCODE || refusal == TF_CUT_SHORT)
-        printf("refused %u at offset %zu: %s\n", (unsigned)refusal, stop(code, length), in_words(refusal));
+        printf("refused %u at offset %u: %s\n", (unsigned)refusal, (unsigned)tf_value(answer), in_words(refusal));
     else
         printf("refused %u: %s\n", (unsigned)refusal, in_words(refusal));
     if (refusal == TF_NO_DEPTHS)

@@ -6,6 +6,43 @@
  * Exit status: 0 at the code's end, 1 where it is damaged, 2 where the file can't be read. */
 #include "parts.h"
 
+/* Prints one value behind the others of its operand. */
+static void print_value(int *count, long value)
+{
+    printf("%s%ld", *count == 0 ? "" : ",", value);
+    ++*count;
+}
+
+/* The operand's values, then for a keyword call the number of its names and each name. */
+static void print_operands(const uint8_t *code, const uint64_t cell[TF_STEP_CELLS])
+{
+    /* how many of a, b and c a shape has */
+    static const int values[] = {
+        [TF_SHAPE_NONE] = 0,    [TF_SHAPE_U8] = 1,     [TF_SHAPE_I8] = 1,           [TF_SHAPE_U16] = 1,
+        [TF_SHAPE_OFFSET] = 1,  [TF_SHAPE_U8U8] = 2,   [TF_SHAPE_U16U8] = 2,        [TF_SHAPE_U16U16] = 2,
+        [TF_SHAPE_U16U8U8] = 3, [TF_SHAPE_CALL_KW] = 1, [TF_SHAPE_CALL_ATTR_KW] = 2, [TF_SHAPE_U16U16U8] = 3,
+    };
+    uint64_t shape = cell[TF_STEP_SHAPE];
+    int count = 0;
+    for (int i = 0; i < values[shape]; i++) {
+        uint64_t value = cell[TF_STEP_A + i];
+        if (shape == TF_SHAPE_I8)
+            print_value(&count, value < 128 ? (long)value : (long)value - 256);
+        else if (shape == TF_SHAPE_OFFSET)
+            print_value(&count, value < 32768 ? (long)value : (long)value - 65536);
+        else
+            print_value(&count, (long)value);
+    }
+    if (shape == TF_SHAPE_CALL_KW || shape == TF_SHAPE_CALL_ATTR_KW) {
+        const uint8_t *name = code + cell[TF_STEP_NAMES_AT];
+        print_value(&count, (long)cell[TF_STEP_NAMES]);
+        for (uint64_t i = 0; i < cell[TF_STEP_NAMES]; i++, name += 2)
+            print_value(&count, name[0] + 256L * name[1]);
+    }
+    if (count == 0)
+        printf("-");
+}
+
 static void print_instruction(const uint8_t *code, size_t at, const uint64_t cell[TF_STEP_CELLS])
 {
     uint8_t opcode = (uint8_t)cell[TF_STEP_OPCODE], name[32];

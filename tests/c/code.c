@@ -55,6 +55,9 @@ static void step(const char *what, const uint8_t *code, size_t length, size_t at
     refused(what, tf_step(code, length, at, fresh(), TF_STEP_CELLS - 1), TF_FULL, TF_TABLE_TEXT);
 }
 
+/* Code that is too long to list and to count. */
+static uint8_t long_code[1048577];
+
 /* The document's nine bytes. */
 static const uint8_t nine[] = {0x06, 0x5A, 0x03, 0x00, 0x08, 0x07, 0x00, 0x05, 0x65};
 
@@ -198,13 +201,71 @@ static void depths(void)
     naming("no opcode", checked("\x05\x83", 2, zero, 2, depth), TF_UNKNOWN_OPCODE, 1);
     report("leaves the depths", depth[0] == 77);
     naming("not counted either", tf_count_instructions((const uint8_t *)"\x05\x83", 2), TF_UNKNOWN_OPCODE, 1);
+    naming("counted up to it", tf_count_instructions((const uint8_t *)"\x05\x05\x83", 3), TF_UNKNOWN_OPCODE, 2);
+    refusal("too long to count", tf_count_instructions(long_code, sizeof long_code), TF_TOO_LARGE);
     report("too few depths", tf_refusal(tf_check((const uint8_t *)nine, 9, zero, 2, depth, 9)) == TF_SHORT_DEPTHS);
+}
+
+/* All parts of a listing with so much room each, checked where depths are given, and whether no byte behind a part changes. */
+static size_t listed(const uint8_t *code, size_t length, const uint32_t *depth, size_t room, char *all)
+{
+    uint8_t text[300];
+    uint64_t told[TF_LIST_CELLS] = {0, 0};
+    size_t size = 0;
+    for (;;) {
+        memset(text, '#', sizeof text);
+        size_t from = (size_t)told[TF_LIST_NEXT];
+        tf_answer answer = depth == NULL ? tf_list(code, length, from, text, room, told, TF_LIST_CELLS)
+                                         : tf_check_listing(code, length, depth, length + 1, from, text, room, told, TF_LIST_CELLS);
+        size_t used = answer == 1 ? (size_t)told[TF_LIST_LENGTH] : 0;
+        for (size_t i = used; i < sizeof text; i++)
+            if (text[i] != '#')
+                report("bytes behind a part", 0);
+        if (answer != 1) {
+            value("the end of a listing", answer, 0);
+            return size;
+        }
+        memcpy(all + size, text, used);
+        size += used;
+    }
+}
+
+static void listings(void)
+{
+    static const char plain[] = "offset\tname\toperands\ttarget\n0\tLoadTrue\t-\t-\n1\tJumpIfFalse\t3\t7\n4\tLoadSmallInt\t7\t-\n"
+                                "6\tPop\t-\t-\n7\tLoadNone\t-\t-\n8\tReturnValue\t-\t-\n";
+    static const char depths[] = "depth\toffset\tname\toperands\ttarget\n0\t0\tLoadTrue\t-\t-\n1\t1\tJumpIfFalse\t3\t7\n"
+                                 "0\t4\tLoadSmallInt\t7\t-\n1\t6\tPop\t-\t-\n0\t7\tLoadNone\t-\t-\n1\t8\tReturnValue\t-\t-\n-\t9\tend\t-\t-\n";
+    static const uint32_t zero[] = {0, 0};
+    uint32_t depth[10];
+    uint64_t told[TF_LIST_CELLS] = {0, 0};
+    uint8_t text[28];
+    char all[600];
+    report("the nine bytes are accepted", tf_check(nine, sizeof nine, zero, 2, depth, 10) == 6);
+    for (size_t room = 35; room < 300; room += 13) {
+        size_t size = listed(nine, sizeof nine, NULL, room, all);
+        report("the listing in parts", size == sizeof plain - 1 && memcmp(all, plain, size) == 0);
+        size = listed(nine, sizeof nine, depth, room, all);
+        report("the checked listing in parts", size == sizeof depths - 1 && memcmp(all, depths, size) == 0);
+    }
+    naming("no room for the header", tf_list(nine, sizeof nine, 0, text, 27, told, TF_LIST_CELLS), TF_FULL, TF_TABLE_TEXT);
+    value("room for the header alone", tf_list(nine, sizeof nine, 0, text, 28, told, TF_LIST_CELLS), 1);
+    report("then the cursor is 1", told[TF_LIST_LENGTH] == 28 && told[TF_LIST_NEXT] == 1);
+    naming("no cells", tf_list(nine, sizeof nine, 0, text, 28, told, 1), TF_FULL, TF_TABLE_TEXT);
+    refusal("too few depths", tf_check_listing(nine, sizeof nine, depth, 9, 0, text, 28, told, TF_LIST_CELLS), TF_SHORT_DEPTHS);
+    value("past the end", tf_list(nine, sizeof nine, SIZE_MAX, text, 28, told, TF_LIST_CELLS), 0);
+    report("a fault is the last line", listed((const uint8_t *)"\x05\x83\x05", 3, NULL, 35, all) == 28 + 15 + 6);
+    report("and says where", memcmp(all + 43, "!\t1\t1\n", 6) == 0);
+    value("too long", tf_list(long_code, 65537, 0, text, 28, told, TF_LIST_CELLS), 1);
+    report("is one line", told[TF_LIST_LENGTH] == 7 && memcmp(text, "!\t0\t10\n", 7) == 0);
+    value("and no other", tf_list(long_code, 65537, (size_t)told[TF_LIST_NEXT], text, 28, told, TF_LIST_CELLS), 0);
 }
 
 static void handlers(void)
 {
     /* the document's example: 2..8 to 20, 0..10 to 30; behind them a part of a row */
     static const uint32_t rows[] = {2, 8, 20, 1, 0, 0, 0, 10, 30, 5, 6, 1, 0, 100, 40};
+    static const uint32_t deep[] = {2, 8, 20, 1, 0, 0, 0, 10, 30, 65536, 6, 1};
     static const uint64_t inner[] = {0, 2, 8, 20, 1, 0, 0}, outer[] = {1, 0, 10, 30, 5, 6, 1};
     const size_t length = sizeof rows / sizeof rows[0];
     wrote("offset 1", tf_find_exception_handler(rows, length, 1, fresh(), CELLS), outer, TF_ROW_CELLS);
@@ -216,6 +277,12 @@ static void handlers(void)
     nothing("no rows", tf_find_exception_handler(NULL, 0, 1, fresh(), CELLS));
     refused("too little room", tf_find_exception_handler(rows, length, 2, fresh(), TF_ROW_CELLS - 1), TF_FULL,
             TF_TABLE_TEXT);
+    wrote("two records, offset 7", tf_find_in_two(rows, length, 7, fresh(), CELLS), inner, TF_ROW_CELLS);
+    wrote("two records, offset 8", tf_find_in_two(rows, 12, 8, fresh(), TF_ROW_CELLS), outer, TF_ROW_CELLS);
+    nothing("two records, offset 10", tf_find_in_two(rows, length, 10, fresh(), CELLS));
+    refused("two records without room", tf_find_in_two(rows, 12, 8, fresh(), TF_ROW_CELLS - 1), TF_FULL, TF_TABLE_TEXT);
+    refused("one record and a part", tf_find_in_two(rows, 11, 7, fresh(), CELLS), TF_UNSOUND, 0);
+    refused("a depth of 65,536", tf_find_in_two(deep, 12, 7, fresh(), CELLS), TF_UNSOUND, 0);
     report("the handler's offset has a name", inner[TF_HANDLER_OFFSET] == 20 && outer[TF_HANDLER_KIND] == 1);
 }
 
@@ -257,6 +324,7 @@ int main(void)
     damaged();
     writing();
     depths();
+    listings();
     handlers();
     locations();
     constants_and_names();

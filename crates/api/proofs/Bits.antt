@@ -9,7 +9,7 @@ use lib.Dec.{ltb}
 use lib.IntN.{ℤ, pos, negsuc, subℕ}
 use borrow.Author.Tests.{ltb-true, ltb-false}
 use Rattle.code.specs.Bytes.{unsigned}
-use Rattle.api.specs.Answers.{half}
+use Rattle.op.specs.Refusals.{half}
 
 pub net-bits : (up down : ℕ) → up < 2147483648 → down < 2147483648 → (up + half - down) % half ≡ unsigned half (subℕ up down)
 net-bits up down h l = go (ltb up down) refl

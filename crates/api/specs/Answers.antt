@@ -1,13 +1,14 @@
--- How answers cross to C: one 64-bit number, 2^32 times the refusal's number or else the value's 32 bits. The header says the same in words.
+-- How answers cross to C: one 64-bit number. Its upper half is 0 or the refusal's number, its lower half the value's 32 bits or what the refusal
+-- names. The header says the same in words.
 -- Assumes nothing.
 use mathlib.Core.Bool.{cond}
 use mathlib.Core.List.{List, []}
-use Prim.Native.Nat.{ℕ, _*_}
+use Prim.Native.Nat.{ℕ}
 use lib.Dec.{leb}
 use lib.ListN.{length}
 use Rattle.op.specs.Names.{nameOf}
 use Rattle.op.specs.Opcodes.{lastOpcode, known}
-use Rattle.op.specs.Refusals.{numberOf}
+use Rattle.op.specs.Refusals.{half, answerOf}
 use Rattle.op.specs.Shapes.{shapeNumber, sizeOf}
 use Rattle.op.specs.declared.After.{After}
 use Rattle.op.specs.declared.After.the-variants as A
@@ -26,13 +27,9 @@ use Rattle.code.specs.Tables.{codeLimit}
 use Rattle.code.specs.declared.Count.{Count}
 use Rattle.code.specs.declared.Count.the-variants as C
 
--- 2^32
-abbrev pub half : ℕ
-half = 4294967296
-
 -- a refusal
 abbrev pub refused : Refusal → ℕ
-refused r = numberOf r * half
+refused r = answerOf r
 
 -- a shape: its number
 abbrev pub shapeAnswer : Shaped → ℕ

@@ -4,3 +4,5 @@ pub mod Told
 pub mod Steps
 pub mod Tables
 pub mod Checks
+pub mod Listings
+pub mod Pairs

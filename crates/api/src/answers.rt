@@ -18,7 +18,7 @@ use op::Refusal;
 pub fn refused(refusal: Refusal) -> u64
     ensures { λ r. ⌜ r ≡ refused refusal ⌝ }
 {
-    op::refusals::number(refusal) as u64 * 0x1_0000_0000
+    op::refusals::answer(refusal)
 }
 
 // An effect's answer.

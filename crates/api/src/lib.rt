@@ -13,12 +13,17 @@ ghost use Rattle.code.specs.Lookups.{locationOf, handlerOf, constantOf, localNa
 ghost use Rattle.api.specs.Answers.{shapeAnswer, netAnswer, deadAnswer, depthAnswer, sizeAnswer, nameAnswer, nameCells, countAnswer};
 ghost use Rattle.api.specs.Checks.{ChecksTold};
 ghost use Rattle.api.specs.Given.{givenOf, effectGiven, afterGiven, flagsGiven, flagsAnswer};
+ghost use Rattle.text.specs.Fitting.{Lists};
+ghost use Rattle.text.specs.Lines.{plainLines, ListsChecked};
+ghost use Rattle.api.specs.Listings.{ListingTold};
+ghost use Rattle.api.specs.Pairs.{twoTold};
 ghost use Rattle.api.specs.Told.{Tells};
 ghost use Rattle.api.specs.Steps.{stepTold, WritesGiven};
 ghost use Rattle.api.specs.Tables.{locatedTold, handledTold, constantTold, nameTold};
 use code::CODE_LIMIT;
 use code::Constant;
 use code::Count;
+use code::ExceptionEntry;
 use code::Handled;
 use code::LocalName;
 use code::Located;
@@ -31,16 +36,25 @@ use op::Operand;
 use op::Refusal;
 use op::Shaped;
 use op::Table;
+use text::listing;
 
 mod answers;
 mod cells;
 mod operands;
+mod pairs;
+mod parts;
 mod steps;
 mod tables;
 
 // An operand given as numbers, or that there is none.
 pub enum Given {
     Is(Operand),
+    Nothing,
+}
+
+// A record given as numbers, or that there is none.
+pub enum Entered {
+    Is(ExceptionEntry),
     Nothing,
 }
 
@@ -230,6 +244,32 @@ pub extern "C" fn tf_check(code: &[u8], starts: &[u32], depths: &mut [u32]) -> u
 }
 
 #[no_mangle]
+pub extern "C" fn tf_list(code: &[u8], from: usize, text: &mut [u8], told: &mut [u64]) -> u64
+    ensures { λ r. ⌜ ListingTold (Lists (plainLines (now (code .entry)) from) from (now (text .entry))) (now (text .entry)) (now (told .entry)) r (now (text .exit)) (now (told .exit)) ⌝ }
+{
+    if told.len() < 2 {
+        return answers::refused(Refusal::Full(Table::Text));
+    }
+    parts::tell_part(listing::list(code, from, text), told)
+}
+
+#[no_mangle]
+pub extern "C" fn tf_check_listing(
+    code: &[u8],
+    depths: &[u32],
+    from: usize,
+    text: &mut [u8],
+    told: &mut [u64],
+) -> u64
+    ensures { λ r. ⌜ ListingTold (ListsChecked (now (code .entry)) (now (depths .entry)) from (now (text .entry))) (now (text .entry)) (now (told .entry)) r (now (text .exit)) (now (told .exit)) ⌝ }
+{
+    if told.len() < 2 {
+        return answers::refused(Refusal::Full(Table::Text));
+    }
+    parts::tell_part(listing::list_checked(code, depths, from, text), told)
+}
+
+#[no_mangle]
 pub extern "C" fn tf_location_for_offset(rows: &[u32], offset: usize, out: &mut [u64]) -> u64
     ensures { λ r. ⌜ Tells (locatedTold (locationOf (now (rows .entry)) offset)) (now (out .entry)) r (now (out .exit)) ⌝ }
 {
@@ -249,6 +289,21 @@ pub extern "C" fn tf_find_exception_handler(rows: &[u32], offset: u32, out: &mut
         Handled::Row(number, row) => tables::tell_handler(number, row, out),
         Handled::Absent => 0,
     }
+}
+
+#[no_mangle]
+pub extern "C" fn tf_find_in_two(rows: &[u32], offset: u32, out: &mut [u64]) -> u64
+    ensures { λ r. ⌜ Tells (twoTold (now (rows .entry)) offset) (now (out .entry)) r (now (out .exit)) ⌝ }
+{
+    if rows.len() < 12 {
+        return answers::refused(Refusal::Unsound);
+    }
+    pairs::find(
+        pairs::entry_at(rows, 0),
+        pairs::entry_at(rows, 6),
+        offset,
+        out,
+    )
 }
 
 #[no_mangle]

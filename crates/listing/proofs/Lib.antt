@@ -1,1 +1,1 @@
-pub mod Progressing
+pub mod Turning

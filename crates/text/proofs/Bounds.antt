@@ -2,10 +2,11 @@
 -- Assumes nothing.
 use mathlib.Core.Path.{_≡_, refl, ap}
 use mathlib.Core.List.{List, [], _∷_, _++_}
-use Prim.Native.Nat.{ℕ, suc, _+_, _*_, _≤_, _<_, _^_}
+use Prim.Native.Nat.{ℕ, zero, suc, _+_, _*_, _≤_, _<_, _^_}
 use native.Mathlib.Omega.{arith}
 use lib.IntN.{ℤ, pos, negsuc, _+ℤ_}
 use lib.ListN.{length, getD, take, drop, length-append, length-take}
+use lib.Seq.{getD-drop}
 use lib.Signed.{mag}
 use Rattle.base.proofs.Lists.{take-below, drop-below}
 use Rattle.op.specs.Opcodes.{lastOpcode}
@@ -13,10 +14,11 @@ use Rattle.op.specs.Shapes.{operandShape, sizeOf}
 use Rattle.op.specs.declared.Operand.{Operand}
 use Rattle.op.specs.declared.Operand.the-variants as O
 use Rattle.code.specs.Decode.{namesIn, namesAt}
+use Rattle.code.specs.Tables.{codeLimit}
 use Rattle.code.proofs.Decoding.{Decoded, decoded, names-part}
 use Rattle.code.proofs.Ranges.{InRange, decoded-range}
 use Rattle.text.specs.Decimal.{decimal, wholeText}
-use Rattle.text.specs.Fields.{namesText, callText, frontText, tailText, operandsAt, backText, lineText, faultText, Found}
+use Rattle.text.specs.Fields.{namesText, callText, frontText, tailText, operandsAt, backText, lineText, faultText, Found, Lean}
 use Rattle.text.specs.Row.{operandColumn, targetOf, targetColumn}
 use Rattle.text.proofs.Decimals.{decimal-short, decimal-fits}
 use Rattle.text.proofs.Names.{names-bound}
@@ -26,6 +28,10 @@ use Rattle.text.proofs.Targets.{mag-add}
 -- numbers of two bytes, and whole numbers a little larger
 word-short : (n : ℕ) → n < 65536 → length (decimal n) ≤ 5
 word-short n h = decimal-short 5 n (omega arith) (omega arith)
+
+target-number : (z : ℤ) → mag z < 9999999 → length (wholeText z) ≤ 8
+target-number (pos n) h = omega (arith, decimal-short 7 n (omega arith) (omega arith))
+target-number (negsuc n) h = omega (arith, decimal-short 7 (suc n) (omega arith) (omega arith))
 
 whole-short : (z : ℤ) → mag z < 99999 → length (wholeText z) ≤ 6
 whole-short (pos n) h = omega (arith, decimal-short 5 n (omega arith) (omega arith))
@@ -72,12 +78,12 @@ module _ (u : List ℕ) (few : length (namesAt lastOpcode u) ≤ 510) (bytes : (
       )
   operands-short (O.U16U16U8 a b c) r = omega (arith, three-short a b c (omega arith) (omega arith) (omega arith))
 
-target-short : (at : ℕ) (o : Operand) → at ≤ 65536 → InRange o → length (targetColumn (targetOf at o)) ≤ 6
+target-short : (at : ℕ) (o : Operand) → at ≤ codeLimit → InRange o → length (targetColumn (targetOf at o)) ≤ 8
 target-short at O.None h r = omega arith
 target-short at (O.U8 a) h r = omega arith
 target-short at (O.I8 z) h r = omega arith
 target-short at (O.U16 a) h r = omega arith
-target-short at (O.Offset z) h r = whole-short (pos (at + 3) +ℤ z) (omega (arith, mag-add (at + 3) z))
+target-short at (O.Offset z) h r = target-number (pos (at + 3) +ℤ z) (omega (arith, mag-add (at + 3) z))
 target-short at (O.U8U8 a b) h r = omega arith
 target-short at (O.U16U8 a b) h r = omega arith
 target-short at (O.U16U16 a b) h r = omega arith
@@ -101,10 +107,9 @@ names-few (O.CallKw p n) r = omega arith
 names-few (O.CallAttrKw a p n) r = omega arith
 names-few (O.U16U16U8 a b c) r = omega arith
 
--- all of a line but its name
-pub record Short (at : ℕ) (o : Operand) (u : List ℕ) : Type 0 where
-  pub front : length (frontText at) ≤ 6
-  pub back : length (backText at o u) ≤ 1556
+-- the offset of a line
+pub front-short : (at : ℕ) → at ≤ codeLimit → length (frontText at) ≤ 8
+front-short at h = omega (arith, length-append (decimal at) (9 ∷ []), decimal-short 7 at (omega arith) (omega arith))
 
 module _ (at : ℕ) (o : Operand) (code : List ℕ) (f : Found at o (drop at code)) (bytes : (i : ℕ) → getD code i 0 < 256) where
   u : List ℕ
@@ -128,9 +133,9 @@ module _ (at : ℕ) (o : Operand) (code : List ℕ) (f : Found at o (drop at cod
   in-bytes : (i : ℕ) → getD (namesAt lastOpcode (drop at code)) i 0 < 256
   in-bytes i = rw names-are (take-below (2 * namesIn o) (drop (sizeOf (operandShape o) 0) (drop at code)) (drop-below (sizeOf (operandShape o) 0) (drop at code) below) i)
 
-  pub short : Short at o (drop at code)
-  short = record {
-    front = omega (arith, length-append (decimal at) (9 ∷ []), decimal-short 5 at (omega (arith, f .low)) (omega arith));
+  pub lean : Lean at o (drop at code)
+  lean = record {
+    low = f .low;
     back =
         omega (
           arith,
@@ -141,9 +146,18 @@ module _ (at : ℕ) (o : Operand) (code : List ℕ) (f : Found at o (drop at cod
         );
   }
 
-  pub line-short : (name : List ℕ) → length (lineText at name o (drop at code)) ≤ 1600 + length name
-  line-short name =
-      omega (arith, short .front, short .back, length-append (frontText at) (name ++ backText at o (drop at code)), length-append name (backText at o (drop at code)))
+-- all of a line but its name
+pub line-short : (at : ℕ) (o : Operand) (u front name : List ℕ) → Lean at o u → length front ≤ 11
+    → length (front ++ lineText at name o u) ≤ 1600 + length name
+line-short at o u front name l h =
+    omega (
+      arith,
+      front-short at (l .low),
+      l .back,
+      length-append front (lineText at name o u),
+      length-append (frontText at) (name ++ backText at o u),
+      length-append name (backText at o u),
+    )
 
 -- a fault line
 pub fault-short : (at n : ℕ) → at < 2 ^ 64 → n < 256 → length (faultText at n) ≤ 32

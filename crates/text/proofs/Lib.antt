@@ -10,7 +10,10 @@ pub mod Bounds
 pub mod Lining
 pub mod Examples
 pub mod Whole
-pub mod Saying
+pub mod Pieces
+pub mod Progressing
+pub mod Listings
+pub mod Joining
 pub mod Opcodes
 pub mod RowsBack
 pub mod RowsOnly

@@ -20,7 +20,7 @@ pub mag-add : (a : ℕ) (z : ℤ) → mag (pos a +ℤ z) ≤ a + suc (mag z)
 mag-add a (pos n) = omega arith
 mag-add a (negsuc n) = mag-sub a (suc n) (ltb a (suc n)) refl
 
-module _ (at : ℕ) (d : ℤ) (small : at ≤ 65536) (fits : SFits w16 d) where
+module _ (at : ℕ) (d : ℤ) (small : at ≤ 1048576) (fits : SFits w16 d) where
   up : toZ w64 at +ℤ pos 3 ≡ pos (at + 3)
   up = ap (λ (x : ℤ). x +ℤ pos 3) (toZ-pos w64 at (omega arith))
 

@@ -3,13 +3,14 @@
 use mathlib.Core.Path.{_≡_}
 use mathlib.Core.List.{List, [], _∷_, _++_}
 use Prim.Native.Nat.{ℕ, _≤_}
+use lib.ListN.{length}
 use Rattle.op.specs.Opcodes.{lastOpcode}
 use Rattle.op.specs.declared.Operand.{Operand}
 use Rattle.code.specs.Bytes.{wordsIn}
 use Rattle.code.specs.Decode.{decode, namesAt}
+use Rattle.code.specs.Tables.{codeLimit}
 use Rattle.code.specs.declared.Step.the-variants.{Instr}
 use Rattle.text.specs.Decimal.{decimal}
-use Rattle.text.specs.Listing.{most}
 use Rattle.text.specs.Parts.{led}
 use Rattle.text.specs.Row.{wholes, wholeTexts, operandsOf, targetOf, operandColumn, targetColumn}
 
@@ -50,4 +51,9 @@ pub record Found (at : ℕ) (o : Operand) (u : List ℕ) : Type 0 where
   pub opcode : ℕ
   pub size : ℕ
   pub is : decode lastOpcode at u ≡ Instr opcode o size
-  pub low : at ≤ most
+  pub low : at ≤ codeLimit
+
+-- an offset of a code, and an operand that has room behind a name
+pub record Lean (at : ℕ) (o : Operand) (u : List ℕ) : Type 0 where
+  pub low : at ≤ codeLimit
+  pub back : length (backText at o u) ≤ 1558

@@ -4,6 +4,9 @@ pub mod Number
 pub mod Parts
 pub mod Row
 pub mod Listing
+pub mod Fitting
 pub mod Lines
+pub mod Progress
+pub mod Joined
 pub mod Fields
 pub mod Reading

@@ -1,7 +1,9 @@
-// Texts in lent slices: numbers in decimal, and the lines of a listing.
+// Texts in lent slices: numbers in decimal, and listings.
 use op::Refusal;
 
-pub mod lines;
+mod lines;
+mod lister;
+pub mod listing;
 pub mod put;
 mod row;
 mod write;
@@ -12,14 +14,9 @@ pub enum Placed {
     Refused(Refusal),
 }
 
-// What became of the line at an offset.
-pub enum Lined {
-    // written: it ends before `to`, and the next stands for what is at `next`
-    Line { to: usize, next: usize },
-    // the fault line, which is the last: it ends before this place
-    Fault(usize),
-    // no more lines
-    End,
-    // 10, or 18
+// A part of a listing.
+pub enum Listed {
+    // whole lines in the first `length` cells; the lines behind them are those from the cursor `next` on
+    Part { length: usize, next: usize },
     Refused(Refusal),
 }

@@ -5,9 +5,9 @@ ghost use Prim.Native.Nat.{_+_, _-_, _≤_, _<_};
 ghost use lib.IntN.{pos, _+ℤ_};
 ghost use lib.ListN.{length, drop};
 ghost use Rattle.code.specs.Bytes.{wordAt};
+ghost use Rattle.code.specs.Tables.{codeLimit};
 ghost use Rattle.text.specs.Decimal.{decimal};
 ghost use Rattle.text.specs.Fields.{namesText, callText, tailText, operandsAt, backText, lineText, faultText};
-ghost use Rattle.text.specs.Listing.{most};
 ghost use Rattle.text.specs.Put.{Put};
 ghost use Rattle.text.specs.Row.{operandColumn, targetColumn, targetOf};
 use crate::write;
@@ -138,7 +138,7 @@ fn operands(code: &[u8], at: usize, operand: Operand, out: &mut [u8], to: usize)
 
 // Where a jump at `at` goes: behind its three bytes, and on by the displacement.
 fn jump_target(at: usize, displacement: i16) -> i64
-    requires { ⌜ at ≤ most ⌝ }
+    requires { ⌜ at ≤ codeLimit ⌝ }
     ensures { λ r. ⌜ r ≡ pos (at + 3) +ℤ displacement ⌝ }
 {
     at as i64 + 3 + displacement as i64
@@ -146,7 +146,7 @@ fn jump_target(at: usize, displacement: i16) -> i64
 
 // The target of a jump, or `-`.
 fn target(at: usize, operand: Operand, out: &mut [u8], to: usize) -> usize
-    requires { ⌜ (at ≤ most) × (length (targetColumn (targetOf at operand)) ≤ length (now out) - to) ⌝ }
+    requires { ⌜ (at ≤ codeLimit) × (length (targetColumn (targetOf at operand)) ≤ length (now out) - to) ⌝ }
     ensures { λ r. ⌜ Put (now (out .entry)) to (targetColumn (targetOf at operand)) r (now (out .exit)) ⌝ }
 {
     let Operand::Offset(displacement) = operand else {
@@ -166,7 +166,7 @@ pub fn ended(n: u64, end: u8, out: &mut [u8], to: usize) -> usize
 
 // A tab, the target and the line's end.
 fn tail(at: usize, operand: Operand, out: &mut [u8], to: usize) -> usize
-    requires { ⌜ (at ≤ most) × (length (tailText at operand) ≤ length (now out) - to) ⌝ }
+    requires { ⌜ (at ≤ codeLimit) × (length (tailText at operand) ≤ length (now out) - to) ⌝ }
     ensures { λ r. ⌜ Put (now (out .entry)) to (tailText at operand) r (now (out .exit)) ⌝ }
 {
     let o = write::byte(b'\t', out, to);
@@ -176,7 +176,7 @@ fn tail(at: usize, operand: Operand, out: &mut [u8], to: usize) -> usize
 
 // All behind the name.
 pub fn back(code: &[u8], at: usize, operand: Operand, out: &mut [u8], to: usize) -> usize
-    requires { ⌜ (at ≤ most) × (length (backText at operand (drop at (now code))) ≤ length (now out) - to) ⌝ }
+    requires { ⌜ (at ≤ codeLimit) × (length (backText at operand (drop at (now code))) ≤ length (now out) - to) ⌝ }
     ensures { λ r. ⌜ Put (now (out .entry)) to (backText at operand (drop at (now (code .entry)))) r (now (out .exit)) ⌝ }
 {
     let o = write::byte(b'\t', out, to);
@@ -193,7 +193,7 @@ pub fn line(
     out: &mut [u8],
     to: usize,
 ) -> usize
-    requires { ⌜ (at ≤ most) × (length (lineText at (now name) operand (drop at (now code))) ≤ length (now out) - to) ⌝ }
+    requires { ⌜ (at ≤ codeLimit) × (length (lineText at (now name) operand (drop at (now code))) ≤ length (now out) - to) ⌝ }
     ensures { λ r. ⌜ Put (now (out .entry)) to (lineText at (now (name .entry)) operand (drop at (now (code .entry)))) r (now (out .exit)) ⌝ }
 {
     let o = ended(at as u64, b'\t', out, to);

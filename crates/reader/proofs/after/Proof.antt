@@ -1,26 +1,35 @@
--- `reader::after` meets its contract: an instruction that decodes ends in the code.
+-- `reader::after` meets its contract: its tests are those of the definition, and at the code's end nothing is left of it.
 -- Assumes nothing.
-use mathlib.Core.Path.{sym, ap, _∙_}
+use mathlib.Core.Path.{_≡_, refl}
+use mathlib.Core.Bool.{Bool, true, false, cond}
+use Prim.Native.Nat.{ℕ, _+_, _-_, _≤_}
 use native.Mathlib.Omega.{arith}
-use denote.Ref.{now}
+use lib.Dec.{leb}
 use borrow.Author.Needs.{needs}
-use Rattle.code.proofs.Decoding.{decoded-ends}
-use Rattle.code.specs.declared.Step.{Step}
-use Rattle.reader.specs.Reader.{afterStep}
+use borrow.Author.Tests.{le-leb, lt-leb, leb-true}
 use Rattle.reader.proofs.after.Statement.{statement}
 use Rattle.reader.proofs.after.Tie as tie
 
-step-at-requires : tie.Need-step-at-requires
-step-at-requires c κs = search needs
+stays : (size at z : ℕ) → size ≤ at → at ≡ cond (leb z (size - at)) (at + z) at
+stays size at z h = by (leb z (size - at)) refl
+  where
+    by : (b : Bool) → leb z (size - at) ≡ b → at ≡ cond b (at + z) at
+    by true e = omega (arith, leb-true z (size - at) e)
+    by false e = refl
 
 enum-known-step : tie.Need-enum-known-step
 enum-known-step c = search needs
 
+sub-if2 : tie.Need-sub-if2
+sub-if2 c = search needs
+
 add-result : tie.Need-add-result
-add-result c =
-    let c3 = c .before .before .before in
-    let a = c3 .before .before .args in
-    omega (arith, decoded-ends _ (a .at) (now (a .code)) _ _ _ (sym (c3 .step-at .ensures) ∙ c .before .step .given .1) .1)
+add-result c = search needs
+
+returns : tie.Need-returns
+returns c =
+    let after-step = c .before .before .before in
+    rw (after-step .step .given .1, le-leb _ _ (c .if2 .taken))
 
 enum-told : tie.Need-enum-told
 enum-told c = search needs
@@ -28,30 +37,33 @@ enum-told c = search needs
 enum-told-2 : tie.Need-enum-told-2
 enum-told-2 c = search needs
 
-returns : tie.Need-returns
-returns c =
-    let c3 = c .before .before .before in
-    ap (λ (s : Step). afterStep (c3 .before .before .args .at) s) (sym (c .before .step .given .1) ∙ c3 .step-at .ensures)
-
 returns-2 : tie.Need-returns-2
 returns-2 c =
-    let c2 = c .before .before in
-    ap (λ (s : Step). afterStep (c2 .before .before .args .at) s) (sym (c .enum-told .given .1) ∙ c2 .step-at .ensures)
+    let after-step = c .before .before .before in
+    rw (after-step .step .given .1, lt-leb _ _ (c .if2 .left))
 
 returns-3 : tie.Need-returns-3
 returns-3 c =
-    let c2 = c .before .before in
-    ap (λ (s : Step). afterStep (c2 .before .before .args .at) s) (sym (c .enum-told2 .given .1) ∙ c2 .step-at .ensures)
+    let after-step = c .before .before in
+    rw (after-step .step .given .1) (stays _ _ _ (omega (arith, c .if1 .left)))
+
+returns-4 : tie.Need-returns-4
+returns-4 c = search needs
+
+returns-5 : tie.Need-returns-5
+returns-5 c = search needs
 
 pub after-spec : {M : Type 1} → statement M
 after-spec =
     tie.close
     (tie.spec
-    step-at-requires
     enum-known-step
+    sub-if2
     add-result
+    returns
     enum-told
     enum-told-2
-    returns
     returns-2
-    returns-3)
+    returns-3
+    returns-4
+    returns-5)

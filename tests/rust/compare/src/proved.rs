@@ -55,7 +55,7 @@ mod c {
     }
 }
 
-/// An answer as it crosses: the refusal's number in the upper half, the value in the lower.
+/// An answer as it crosses: the refusal's number in the upper half, the value or what the refusal names in the lower.
 #[derive(Clone, Copy, PartialEq, Eq)]
 pub struct Answer(u64);
 
@@ -65,7 +65,17 @@ impl Answer {
     }
 
     pub fn refused(number: u32) -> Self {
-        Self(u64::from(number) << 32)
+        Self::naming(number, 0)
+    }
+
+    /// A refusal and what it names: an offset, or the number of a table.
+    pub fn naming(number: u32, named: u32) -> Self {
+        Self(u64::from(number) << 32 | u64::from(named))
+    }
+
+    /// 18 for a lent text or lent cells.
+    pub fn no_room() -> Self {
+        Self::naming(18, 8)
     }
 }
 
@@ -74,7 +84,7 @@ impl fmt::Debug for Answer {
         match (self.0 >> 32, (self.0 as u32).cast_signed()) {
             (0, value) => write!(f, "accepted {value}"),
             (number, 0) => write!(f, "refused {number}"),
-            (number, value) => write!(f, "refused {number} beside the value {value}"),
+            (number, named) => write!(f, "refused {number} about {named}"),
         }
     }
 }

@@ -34,22 +34,22 @@ pub fn run(tally: &mut Tally, plan: &mut Plan) {
 fn one(tally: &mut Tally, decoder: &Decoder, code: &[u8], at: usize, room: usize) {
     let mut cells = [FILLING; 12];
     let answer = proved::step(code, at, &mut cells[..room]);
-    let expected = expected(decoder.step(code, at), room);
+    let expected = expected(decoder.step(code, at), at, room);
     tally.compare((answer, cells), Expected::by_text(expected), || {
         format!("at {at} of {code:?}, room {room}")
     });
 }
 
-fn expected(step: Step, room: usize) -> (Answer, [u64; 12]) {
+fn expected(step: Step, at: usize, room: usize) -> (Answer, [u64; 12]) {
     let mut cells = [FILLING; 12];
     let answer = match step {
         Step::Instruction(numbers) if room >= numbers.len() => {
             cells[..numbers.len()].copy_from_slice(&numbers);
             Answer::accepted(1)
         }
-        Step::Instruction(_) => Answer::refused(18),
+        Step::Instruction(_) => Answer::no_room(),
         Step::End => Answer::accepted(0),
-        Step::Refused(number) => Answer::refused(number),
+        Step::Refused(number) => Answer::naming(number, at as u32),
     };
     (answer, cells)
 }

@@ -54,7 +54,7 @@ fn expected(found: Option<Vec<u64>>, room: usize, by: By) -> Expected<Told> {
     let mut cells = [FILLING; 10];
     let (answer, by) = match found {
         None => (Answer::accepted(0), by),
-        Some(numbers) if room < numbers.len() => (Answer::refused(18), By::Header),
+        Some(numbers) if room < numbers.len() => (Answer::no_room(), By::Header),
         Some(numbers) => {
             cells[..numbers.len()].copy_from_slice(&numbers);
             (Answer::accepted(1), by)

@@ -18,7 +18,11 @@ const LARGEST_ROOM: usize = 40;
 pub fn run(tally: &mut Tally, _: &mut Plan) {
     for byte in 0..=u8::MAX {
         let name = original::opcode(byte).map(|op| format!("{op:?}"));
-        let nowhere = Expected::by_header(Answer::refused(if name.is_some() { 18 } else { 1 }));
+        let nowhere = Expected::by_header(if name.is_some() {
+            Answer::no_room()
+        } else {
+            Answer::refused(1)
+        });
         tally.compare(proved::opcode_name_nowhere(byte), nowhere, || {
             format!("{}, null", named(byte))
         });
@@ -55,7 +59,7 @@ fn expected(name: Option<&str>, room: usize, filling: u8) -> Expected<Written> {
         return Expected::by_rust(Written(Answer::refused(1), buffer));
     };
     if room < name.len() {
-        return Expected::by_header(Written(Answer::refused(18), buffer));
+        return Expected::by_header(Written(Answer::no_room(), buffer));
     }
     buffer[..name.len()].copy_from_slice(name.as_bytes());
     Expected::by_rust(Written(Answer::accepted(name.len() as i32), buffer))

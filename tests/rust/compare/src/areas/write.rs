@@ -42,7 +42,7 @@ fn without_room(tally: &mut Tally, plan: &mut Plan, instruction: &Instruction) {
     let filling = plan.random.u8();
     let mut out = vec![filling; instruction.size];
     let answer = write(&mut out[..room], instruction);
-    let expected = Expected::by_header((Answer::refused(18), vec![filling; instruction.size]));
+    let expected = Expected::by_header((Answer::naming(18, 1), vec![filling; instruction.size]));
     tally.compare((answer, out), expected, || {
         format!("{}, room {room}, {instruction:?}", named(instruction.byte))
     });
