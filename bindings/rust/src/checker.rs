@@ -1,6 +1,6 @@
 //! The depth checker: whether all paths through code meet with the same depth of the stack.
 
-use crate::{Refusal, decoder, sys};
+use crate::{Refusal, sys};
 
 /// What stands where an offset has no depth.
 pub const NO_DEPTH: u32 = 65_536;
@@ -60,16 +60,5 @@ pub fn check(code: &[u8], starts: &[u32]) -> Result<Checked, Refusal> {
 /// # Errors
 /// As [`check`], with 21 behind 10 for a slice that is too short.
 pub fn check_into(code: &[u8], starts: &[u32], depths: &mut [u32]) -> Result<usize, Refusal> {
-    let answer = sys::check(code, starts, depths).value();
-    answer
-        .map(|count| count as usize)
-        .map_err(|refusal| located(refusal, code))
-}
-
-/// The refusal with the offset of the fault that it is about.
-fn located(refusal: Refusal, code: &[u8]) -> Refusal {
-    match refusal {
-        Refusal::UnknownOpcode | Refusal::CutShort(_) => refusal.read_at(decoder::stop(code)),
-        other => other,
-    }
+    sys::check(code, starts, depths).read().map(|count| count as usize)
 }

@@ -153,9 +153,3 @@ impl<'a> Iterator for Instructions<'a> {
 }
 
 impl FusedIterator for Instructions<'_> {}
-
-/// Where a whole reading of the code stops: 1 and 22 are about the instruction there.
-pub(crate) fn stop(code: &[u8]) -> usize {
-    let faulty = instructions(code).find_map(Result::err);
-    faulty.and_then(Refusal::offset).unwrap_or(code.len())
-}

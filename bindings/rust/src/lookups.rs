@@ -46,11 +46,10 @@ pub fn find_exception_handler(rows: &[u32], offset: u32) -> Option<Row> {
 /// # Errors
 /// 19 where a depth or a count is over 65,535, or a kind over 1.
 pub fn find_in_two(offset: u32, records: &[u32; 12]) -> Result<Option<Row>, Refusal> {
-    let fits = |record: &[u32]| record[3] <= 65_535 && record[4] <= 65_535 && record[5] <= 1;
-    if !records.chunks_exact(6).all(fits) {
-        return Err(Refusal::Unsound);
-    }
-    Ok(find_exception_handler(records, offset))
+    let mut cells = [0; 7];
+    let answer = sys::find_in_two(offset, records, &mut cells);
+    answer.value()?;
+    Ok(row(answer, cells))
 }
 
 /// The constant of an index.

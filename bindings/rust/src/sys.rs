@@ -40,6 +40,7 @@ mod c {
             out: *mut u64,
             room: usize,
         ) -> u64;
+        pub fn tf_find_in_two(offset: u32, records: *const u32, length: usize, out: *mut u64, room: usize) -> u64;
         pub fn tf_constant(constants: *const u64, length: usize, index: usize, out: *mut u64, room: usize) -> u64;
         pub fn tf_local_name(names: *const u64, length: usize, slot: usize, out: *mut u64, room: usize) -> u64;
 
@@ -174,6 +175,11 @@ impl Answer {
         }
     }
 
+    /// The value of a call that reads code, whose 1 and 22 name an offset: exact, as checked code is below 4 GiB.
+    pub fn read(self) -> Result<u32, Refusal> {
+        self.value().map_err(|refusal| refusal.read_at(self.0 as u32 as usize))
+    }
+
     /// The value in two's complement.
     pub fn signed(self) -> Result<i32, Refusal> {
         self.value().map(u32::cast_signed)
@@ -243,6 +249,10 @@ pub fn location_for_offset(rows: &[u32], offset: usize, out: &mut [u64]) -> Answ
 
 pub fn find_exception_handler(rows: &[u32], offset: u32, out: &mut [u64]) -> Answer {
     Answer(unsafe { c::tf_find_exception_handler(rows.as_ptr(), rows.len(), offset, out.as_mut_ptr(), out.len()) })
+}
+
+pub fn find_in_two(offset: u32, records: &[u32], out: &mut [u64]) -> Answer {
+    Answer(unsafe { c::tf_find_in_two(offset, records.as_ptr(), records.len(), out.as_mut_ptr(), out.len()) })
 }
 
 pub fn constant(constants: &[u64], index: usize, out: &mut [u64]) -> Answer {
