@@ -19,6 +19,12 @@ impl Checked {
         self.count
     }
 
+    /// The depths by offset, [`NO_DEPTH`] where there is none; the last is the end's.
+    #[must_use]
+    pub fn depths(&self) -> &[u32] {
+        &self.depths
+    }
+
     /// The depth before the instruction at an offset, or at the code's end; none where no path leads, and where no
     /// instruction starts.
     #[must_use]

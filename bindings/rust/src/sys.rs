@@ -40,7 +40,27 @@ mod c {
             out: *mut u64,
             room: usize,
         ) -> u64;
-        pub fn tf_find_in_two(offset: u32, records: *const u32, length: usize, out: *mut u64, room: usize) -> u64;
+        pub fn tf_list(
+            code: *const u8,
+            length: usize,
+            from: usize,
+            text: *mut u8,
+            room: usize,
+            told: *mut u64,
+            told_room: usize,
+        ) -> u64;
+        pub fn tf_check_listing(
+            code: *const u8,
+            length: usize,
+            depths: *const u32,
+            cells: usize,
+            from: usize,
+            text: *mut u8,
+            room: usize,
+            told: *mut u64,
+            told_room: usize,
+        ) -> u64;
+        pub fn tf_find_in_two(records: *const u32, length: usize, offset: u32, out: *mut u64, room: usize) -> u64;
         pub fn tf_constant(constants: *const u64, length: usize, index: usize, out: *mut u64, room: usize) -> u64;
         pub fn tf_local_name(names: *const u64, length: usize, slot: usize, out: *mut u64, room: usize) -> u64;
 
@@ -251,8 +271,38 @@ pub fn find_exception_handler(rows: &[u32], offset: u32, out: &mut [u64]) -> Ans
     Answer(unsafe { c::tf_find_exception_handler(rows.as_ptr(), rows.len(), offset, out.as_mut_ptr(), out.len()) })
 }
 
+pub fn list(code: &[u8], from: usize, text: &mut [u8], told: &mut [u64]) -> Answer {
+    Answer(unsafe {
+        c::tf_list(
+            code.as_ptr(),
+            code.len(),
+            from,
+            text.as_mut_ptr(),
+            text.len(),
+            told.as_mut_ptr(),
+            told.len(),
+        )
+    })
+}
+
+pub fn check_listing(code: &[u8], depths: &[u32], from: usize, text: &mut [u8], told: &mut [u64]) -> Answer {
+    Answer(unsafe {
+        c::tf_check_listing(
+            code.as_ptr(),
+            code.len(),
+            depths.as_ptr(),
+            depths.len(),
+            from,
+            text.as_mut_ptr(),
+            text.len(),
+            told.as_mut_ptr(),
+            told.len(),
+        )
+    })
+}
+
 pub fn find_in_two(offset: u32, records: &[u32], out: &mut [u64]) -> Answer {
-    Answer(unsafe { c::tf_find_in_two(offset, records.as_ptr(), records.len(), out.as_mut_ptr(), out.len()) })
+    Answer(unsafe { c::tf_find_in_two(records.as_ptr(), records.len(), offset, out.as_mut_ptr(), out.len()) })
 }
 
 pub fn constant(constants: &[u64], index: usize, out: &mut [u64]) -> Answer {

@@ -8,7 +8,7 @@ use std::{
     time::Duration,
 };
 
-use tokenfinch::{Checked, Instruction, Refusal, check, instructions};
+use tokenfinch::{Refusal, check};
 
 use super::{Outcome, paths, read, said};
 
@@ -34,7 +34,8 @@ pub fn run(file: &OsStr, starts: &[OsString]) -> Outcome {
     let mut out = BufWriter::new(io::stdout().lock());
     let accepted = match with_patience(|| check(&code, &starts)) {
         Ok(checked) => {
-            print_all(&mut out, &code, &checked)?;
+            // The library made these bytes, and is proved to; they are handed on unread.
+            out.write_all(&checked.listing(&code).map_err(|refusal| said(refusal.to_string()))?)?;
             true
         }
         Err(refusal) => {
@@ -70,40 +71,6 @@ fn with_patience<T>(work: impl FnOnce() -> T) -> T {
         drop(done);
         result
     })
-}
-
-/// The whole listing of code that was accepted.
-fn print_all(out: &mut impl Write, code: &[u8], checked: &Checked) -> io::Result<()> {
-    writeln!(out, "depth\toffset\tname\toperands\ttarget")?;
-    for instruction in instructions(code).flatten() {
-        print_depth(out, checked, instruction.offset())?;
-        print_line(out, &instruction)?;
-    }
-    print_depth(out, checked, code.len())?;
-    writeln!(out, "{}\tend\t-\t-", code.len())
-}
-
-fn print_depth(out: &mut impl Write, checked: &Checked, offset: usize) -> io::Result<()> {
-    match checked.depth_at(offset) {
-        Some(depth) => write!(out, "{depth}\t"),
-        None => write!(out, "-\t"),
-    }
-}
-
-fn print_line(out: &mut impl Write, instruction: &Instruction<'_>) -> io::Result<()> {
-    write!(out, "{}\t{:?}\t", instruction.offset(), instruction.opcode())?;
-    let mut parted = "";
-    for value in instruction.values() {
-        write!(out, "{parted}{value}")?;
-        parted = ",";
-    }
-    if parted.is_empty() {
-        write!(out, "-")?;
-    }
-    match instruction.target() {
-        Some(target) => writeln!(out, "\t{target}"),
-        None => writeln!(out, "\t-"),
-    }
 }
 
 /// The refusal in words; for 23 also where the paths from the starts first show it.

@@ -15,7 +15,7 @@ use Rattle.api.specs.Told.{Told, refusal}
 use Rattle.api.specs.declared.Entered.{Entered}
 use Rattle.api.specs.declared.Entered.the-variants as E
 
--- "kind 0 Consuming, 1 Cleanup"
+-- "0 Consuming, 1 Cleanup"
 abbrev pub kindOf : ℕ → HandlerKind
 kindOf k = cond (eqb k 0) Consuming Cleanup
 

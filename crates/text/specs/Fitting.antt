@@ -39,7 +39,7 @@ noLine cursor full = record { text = []; next = cursor; full = full }
 abbrev pub onto : List ℕ → Part → Part
 onto text p = record { text = text ++ p .text; next = p .next; full = p .full }
 
--- as many of the lines, which begin at a cursor, as so many cells have room for
+-- as many of the lines, which begin at a cursor, as so many cells have room for (R67)
 unfoldable pub fit : ℕ → ℕ → List Line → Part
 fit room cursor [] = noLine cursor false
 fit room cursor (l ∷ ls) =

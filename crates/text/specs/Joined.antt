@@ -16,6 +16,7 @@ pub data Runs (lines : ℕ → List Line) : ℕ → List ℕ → Type 0 where
       → Runs lines cursor (take n (listedIn (lines cursor) cursor old) ++ text)
 
 -- from the first cursor on they put the listing, with any texts lent, and each that puts anything leaves fewer lines
+-- (R67)
 pub record Joins : Type 0 where
   pub plain : (code text : List ℕ) → Runs (plainLines code) 0 text → text ≡ listingOf code
   pub checked : (code depths text : List ℕ) → Runs (checkedLines code depths) 0 text → text ≡ checkedListingOf code depths

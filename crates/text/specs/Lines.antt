@@ -28,10 +28,11 @@ abbrev pub depthText : ℕ → List ℕ
 depthText d = cond (eqb d noDepth) dash (decimal d)
 
 -- the column in front of the line at an offset: its cell, and a tab. Past the cells there is no column, so that without cells there is none
+-- (R66)
 unfoldable pub columnOf : List ℕ → ℕ → List ℕ
 columnOf depths at = cond (ltb at (length depths)) (depthText (getD depths at 0) ++ (9 ∷ [])) []
 
--- the line of the code's end: its offset, `end`, no operands and no target
+-- the line of the code's end: its offset, `end`, no operands and no target (R66)
 unfoldable pub endLine : ℕ → List ℕ
 endLine at = line (fieldsText (ascii "end") (rowOf at 0 None []))
 
@@ -81,11 +82,11 @@ checkedHeader = line (ascii "depth\toffset\tname\toperands\ttarget")
 unfoldable pub checkedLines : List ℕ → List ℕ → ℕ → List Line
 checkedLines code depths cursor = linesAt checkedHeader (take (suc (length code)) depths) code cursor
 
--- the whole of it
+-- the whole of it (R66)
 unfoldable pub checkedListingOf : List ℕ → List ℕ → List ℕ
 checkedListingOf code depths = textOf (checkedLines code depths 0)
 
--- the answer of a call that makes a part of it, and every lent cell: 10, then 21, then 18
+-- the answer of a call that makes a part of it, and every lent cell: 10, then 21, then 18 (R67)
 pub record ListsChecked (code depths : List ℕ) (cursor : ℕ) (old : List ℕ) (answer : Listed) (out : List ℕ) : Type 0 where
   pub answers : answer ≡
       cond (leb (length code) codeLimit) (cond (ltb (length code) (length depths)) (listedOf (checkedLines code depths cursor) cursor old) (L.Refused ShortDepths))
