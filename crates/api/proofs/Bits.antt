@@ -14,6 +14,7 @@ use Rattle.op.specs.Refusals.{half}
 pub net-bits : (up down : ℕ) → up < 2147483648 → down < 2147483648 → (up + half - down) % half ≡ unsigned half (subℕ up down)
 net-bits up down h l = go (ltb up down) refl
   where
-    go : (t : Bool) → ltb up down ≡ t → (up + half - down) % half ≡ unsigned half (cond t (negsuc (down - suc up)) (pos (up - down)))
+    go : (t : Bool) → ltb up down ≡ t → (up + half - down) % half
+        ≡ unsigned half (cond t (negsuc (down - suc up)) (pos (up - down)))
     go true e = let b : up < down = ltb-true up down e in omega arith
     go false e = let b : down ≤ up = ltb-false up down e in omega arith

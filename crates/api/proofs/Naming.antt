@@ -24,7 +24,8 @@ name-unknown k out h = (simp (lt-leb k lastOpcode h), simp (lt-leb k lastOpcode 
 -- what `of_opcode` answers over the two tables is the name
 pub name-is : (k : ℕ) (name text starts : List ℕ) → k ≤ lastOpcode → name ≡ nameBy text starts k → text ≡ nameText
     → starts ≡ nameStarts → name ≡ nameOf k
-name-is k name text starts h e t s = e ∙ ap (λ (l : List ℕ). nameBy l starts k) t ∙ ap (λ (l : List ℕ). nameBy nameText l k) s ∙ name-by k (omega (arith, rows))
+name-is k name text starts h e t s = e ∙ ap (λ (l : List ℕ). nameBy l starts k) t
+    ∙ ap (λ (l : List ℕ). nameBy nameText l k) s ∙ name-by k (omega (arith, rows))
 
 module _ (k : ℕ) (name out : List ℕ) (h : k ≤ lastOpcode) (is : name ≡ nameOf k) where
   pub name-full : length out < length name → (refused (Full Text) ≡ nameAnswer k (length out)) × (out ≡ nameCells k out)
@@ -33,8 +34,12 @@ module _ (k : ℕ) (name out : List ℕ) (h : k ≤ lastOpcode) (is : name ≡ n
       let m : length out < length (nameOf k) = rw is at l in
       (simp (le-leb k lastOpcode h, lt-leb _ _ m), simp (le-leb k lastOpcode h, lt-leb _ _ m))
 
-  pub name-written : length name ≤ length out → (length name ≡ nameAnswer k (length out)) × (front name out ≡ nameCells k out)
+  pub name-written : length name ≤ length out → (length name ≡ nameAnswer k (length out))
+      × (front name out ≡ nameCells k out)
   unfolding known nameAnswer nameCells
   name-written l =
-      let m : length (nameOf k) ≤ length out = rw is at l in
-      (ap length is ∙ simp (le-leb k lastOpcode h, le-leb _ _ m), ap (λ (n : List ℕ). front n out) is ∙ simp (le-leb k lastOpcode h, le-leb _ _ m))
+      let m : length (nameOf k) ≤ length out = rw is at l in (
+        ap length is ∙ simp (le-leb k lastOpcode h, le-leb _ _ m),
+        ap (λ (n : List ℕ). front n out) is
+            ∙ simp (le-leb k lastOpcode h, le-leb _ _ m),
+      )

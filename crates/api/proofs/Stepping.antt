@@ -1,4 +1,5 @@
--- Laws of the step's eight cells. They give the operand back: what a step tells is what `tf_stack_effect` and `tf_write` take.
+-- Laws of the step's eight cells. They give the operand back: what a step tells is what `tf_stack_effect` and
+-- `tf_write` take.
 -- Assumes nothing.
 use mathlib.Core.Path.{_≡_, refl, sym, ap, _∙_}
 use mathlib.Core.List.{List, [], _∷_}

@@ -15,11 +15,17 @@ use Rattle.api.specs.Told.{Told, numbers, nothing, refusal, toldAnswer, 
 module _ (xs out : List ℕ) where
   pub tells-full : (r : ℕ) → r ≡ refused (Full Text) → length out < length xs → Tells (numbers xs) out r out
   unfolding toldAnswer toldCells
-  tells-full r e h = record { answers = rw (e, lt-leb (length xs) (length out) h); cells = rw (lt-leb (length xs) (length out) h) }
+  tells-full r e h = record {
+    answers = rw (e, lt-leb (length xs) (length out) h);
+    cells = rw (lt-leb (length xs) (length out) h);
+  }
 
   pub tells-all : (out′ : List ℕ) → out′ ≡ front xs out → length xs ≤ length out → Tells (numbers xs) out 1 out′
   unfolding toldAnswer toldCells
-  tells-all out′ e h = record { answers = rw (le-leb (length xs) (length out) h); cells = rw (e, le-leb (length xs) (length out) h) }
+  tells-all out′ e h = record {
+    answers = rw (le-leb (length xs) (length out) h);
+    cells = rw (e, le-leb (length xs) (length out) h);
+  }
 
 -- nothing is told, and no cell changes
 pub tells-nothing : (t : Told) (out : List ℕ) → t ≡ nothing → Tells t out 0 out

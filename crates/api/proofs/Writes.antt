@@ -36,7 +36,8 @@ module _ (k : ℕ) (o : Operand) (n room : ℕ) (h : 255 < n) where
   many-written = ap W.Refused (many k n h) ∙ by-known (known k) refl
 
 -- over 255 names nothing is written, whatever is given
-pub writes-many : (k : ℕ) (g : Given) (names out : List ℕ) (answer : ℕ) → 255 < length names → answer ≡ refused (unwritten k (length names))
+pub writes-many : (k : ℕ) (g : Given) (names out : List ℕ) (answer : ℕ) → 255 < length names
+    → answer ≡ refused (unwritten k (length names))
     → WritesGiven k g names out answer out
 writes-many k (G.Is o) names out answer h e =
     let w = many-written k o (length names) (length out) h in
@@ -52,10 +53,12 @@ pub writes-as : (k : ℕ) (g g′ : Given) (names out : List ℕ) (answer : ℕ)
 writes-as k g g′ names out answer out′ e h = rw e at h
 
 -- what was written, a step tells, wherever it is read
-pub written-told : (k : ℕ) (o : Operand) (names out : List ℕ) (answer : ℕ) (out′ : List ℕ) (z : ℕ) → WritesGiven k (G.Is o) names out answer out′
+pub written-told : (k : ℕ) (o : Operand) (names out : List ℕ) (answer : ℕ) (out′ : List ℕ) (z : ℕ)
+    → WritesGiven k (G.Is o) names out answer out′
     → writtenOf k o (length names) (length out) ≡ W.Size z → SignsFit o → (at : ℕ)
     → stepTold at (decode lastOpcode at out′) ≡ numbers (instruction at k o z)
 written-told k o names out answer out′ z w e signs at =
     let g = goes k o (length names) (length out) z e in
     let l = shape-known k (operandShape o) (g .shape) in
-    ap (stepTold at) (written-decodes k o names out (W.Size z) out′ (record { answers = sym e; cells = w .cells }) z refl signs lastOpcode l at)
+    ap (stepTold at) (written-decodes k o names out (W.Size z) out′ (record { answers = sym e; cells = w .cells }) z
+    refl signs lastOpcode l at)

@@ -1,5 +1,5 @@
--- How answers cross to C: one 64-bit number. Its upper half is 0 or the refusal's number, its lower half the value's 32 bits or what the refusal
--- names. The header says the same in words.
+-- How answers cross to C: one 64-bit number. Its upper half is 0 or the refusal's number, its lower half the value's
+-- 32 bits or what the refusal names. The header says the same in words.
 -- Assumes nothing.
 use mathlib.Core.Bool.{cond}
 use mathlib.Core.List.{List, []}
@@ -60,7 +60,8 @@ sizeAnswer (S.Refused r) names = refused r
 -- the length of an opcode's name: 1, then 18 where the room is too small
 unfoldable pub nameAnswer : ℕ → ℕ → ℕ
 nameAnswer k room =
-    cond (known k) (cond (leb (length (nameOf k)) room) (length (nameOf k)) (refused (Full Text))) (refused UnknownOpcode)
+    cond (known k) (cond (leb (length (nameOf k)) room) (length (nameOf k)) (refused (Full Text)))
+    (refused UnknownOpcode)
 
 -- the cells that it is written to
 unfoldable pub nameCells : ℕ → List ℕ → List ℕ

@@ -29,7 +29,8 @@ use Rattle.api.specs.declared.Given.the-variants as G
 abbrev pub byte : ℕ → Given → Given
 byte x o = cond (ltb x 256) o G.Nothing
 
--- the operands of the twelve shapes with the values a, b, c and so many names; nothing where a value is too large for its field
+-- the operands of the twelve shapes with the values a, b, c and so many names; nothing where a value is too large for
+-- its field
 abbrev pub operands : ℕ → ℕ → ℕ → ℕ → List Given
 operands a b c names =
     G.Is O.None ∷

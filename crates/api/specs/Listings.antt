@@ -25,6 +25,7 @@ pub record PartTold (Promise : Listed → List ℕ → Type 0) (text′ told : L
   pub tells : Tells (partTold answer) told w told′
 
 -- where there are too few cells to tell it, 18 first, and no part is made
-pub record ListingTold (Promise : Listed → List ℕ → Type 0) (text told : List ℕ) (w : ℕ) (text′ told′ : List ℕ) : Type 0 where
+pub record ListingTold (Promise : Listed → List ℕ → Type 0) (text told : List ℕ) (w : ℕ) (text′ told′ : List ℕ)
+    : Type 0 where
   pub few : length told < 2 → (w ≡ refused (Full Text)) × (text′ ≡ text) × (told′ ≡ told)
   pub enough : 2 ≤ length told → PartTold Promise text′ told w told′

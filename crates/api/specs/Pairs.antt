@@ -25,7 +25,14 @@ entryOf start end handler depth count kind =
     cond (leb depth wordMax)
     (cond (leb count wordMax)
     (cond (leb kind 1)
-    (E.Is (record { start = start; end = end; handler = handler; «stack_depth» = depth; «exception_stack_count» = count; kind = kindOf kind }))
+    (E.Is (record {
+      start = start;
+      end = end;
+      handler = handler;
+      «stack_depth» = depth;
+      «exception_stack_count» = count;
+      kind = kindOf kind;
+    }))
     E.Nothing)
     E.Nothing)
     E.Nothing

@@ -65,7 +65,8 @@ pub fn of_compared(compared: Compared) -> u8
 // All of a text to the front of a slice; answers its length.
 pub fn copy(text: &[u8], out: &mut [u8]) -> u64
     requires { ⌜ length (now text) ≤ length (now out) ⌝ }
-    ensures { λ r. ⌜ (r ≡ length (now (text .entry))) × (now (out .exit) ≡ front (now (text .entry)) (now (out .entry))) ⌝ }
+    ensures { λ r. ⌜ (r ≡ length (now (text .entry)))
+        × (now (out .exit) ≡ front (now (text .entry)) (now (out .entry))) ⌝ }
 {
     let mut i = 0;
     while i < text.len() {

@@ -1,6 +1,6 @@
-// What C and Rust call: the opcode rules, the decoder's step, the instruction writer, the depth checker and the lookups, on numbers and
-// slices of numbers.
-// include/tokenfinch.h declares these functions and says in words what they promise here.
+// What C and Rust call: the opcode rules, the decoder's step, the instruction writer, the depth checker and the
+// lookups, on numbers and slices of numbers. include/tokenfinch.h declares these functions and says in words what
+// they promise here.
 ghost use mathlib.Core.Path.{_≡_};
 ghost use lib.ListN.{length, drop};
 ghost use Rattle.op.specs.Opcodes.{lastOpcode};
@@ -10,7 +10,8 @@ ghost use Rattle.op.specs.Depths.{takenDepthOf};
 ghost use Rattle.op.specs.Flags.{decodedFlags};
 ghost use Rattle.code.specs.Decode.{decode};
 ghost use Rattle.code.specs.Lookups.{locationOf, handlerOf, constantOf, localNameOf};
-ghost use Rattle.api.specs.Answers.{shapeAnswer, netAnswer, deadAnswer, depthAnswer, sizeAnswer, nameAnswer, nameCells, countAnswer};
+ghost use Rattle.api.specs.Answers.{shapeAnswer, netAnswer, deadAnswer, depthAnswer, sizeAnswer, nameAnswer};
+ghost use Rattle.api.specs.Answers.{nameCells, countAnswer};
 ghost use Rattle.api.specs.Checks.{ChecksTold};
 ghost use Rattle.api.specs.Given.{givenOf, effectGiven, afterGiven, flagsGiven, flagsAnswer};
 ghost use Rattle.text.specs.Fitting.{Lists};
@@ -137,7 +138,8 @@ pub extern "C" fn tf_instruction_size(opcode: u8, names: u8) -> u64
 
 #[no_mangle]
 pub extern "C" fn tf_opcode_name(opcode: u8, out: &mut [u8]) -> u64
-    ensures { λ r. ⌜ (r ≡ nameAnswer opcode (length (now (out .entry)))) × (now (out .exit) ≡ nameCells opcode (now (out .entry))) ⌝ }
+    ensures { λ r. ⌜ (r ≡ nameAnswer opcode (length (now (out .entry))))
+        × (now (out .exit) ≡ nameCells opcode (now (out .entry))) ⌝ }
 {
     if op::opcodes::LAST < opcode {
         return answers::refused(Refusal::UnknownOpcode);
@@ -198,7 +200,8 @@ pub extern "C" fn tf_count_instructions(code: &[u8]) -> u64
 
 #[no_mangle]
 pub extern "C" fn tf_step(code: &[u8], at: usize, out: &mut [u64]) -> u64
-    ensures { λ r. ⌜ Tells (stepTold at (decode lastOpcode at (drop at (now (code .entry))))) (now (out .entry)) r (now (out .exit)) ⌝ }
+    ensures { λ r. ⌜ Tells (stepTold at (decode lastOpcode at (drop at (now (code .entry))))) (now (out .entry)) r
+        (now (out .exit)) ⌝ }
 {
     let step = code::decoder::step_at(code, at);
     match step {
@@ -222,7 +225,8 @@ pub extern "C" fn tf_write(
     c: u8,
     names: &[u16],
 ) -> u64
-    ensures { λ r. ⌜ WritesGiven opcode (givenOf shape a b c (length (now (names .entry)))) (now (names .entry)) (now (out .entry)) r (now (out .exit)) ⌝ }
+    ensures { λ r. ⌜ WritesGiven opcode (givenOf shape a b c (length (now (names .entry)))) (now (names .entry))
+        (now (out .entry)) r (now (out .exit)) ⌝ }
 {
     if 255 < names.len() {
         return answers::refused(steps::no_write(opcode, names.len()));
@@ -237,7 +241,8 @@ pub extern "C" fn tf_write(
 
 #[no_mangle]
 pub extern "C" fn tf_check(code: &[u8], starts: &[u32], depths: &mut [u32]) -> u64
-    ensures { λ r. ⌜ ChecksTold (now (code .entry)) (now (starts .entry)) (now (depths .entry)) r (now (depths .exit)) ⌝ }
+    ensures { λ r. ⌜ ChecksTold (now (code .entry)) (now (starts .entry)) (now (depths .entry)) r
+        (now (depths .exit)) ⌝ }
 {
     let checked = checker::check(code, starts, depths);
     answers::of_checked(checked)
@@ -245,7 +250,8 @@ pub extern "C" fn tf_check(code: &[u8], starts: &[u32], depths: &mut [u32]) -> u
 
 #[no_mangle]
 pub extern "C" fn tf_list(code: &[u8], from: usize, text: &mut [u8], told: &mut [u64]) -> u64
-    ensures { λ r. ⌜ ListingTold (Lists (plainLines (now (code .entry)) from) from (now (text .entry))) (now (text .entry)) (now (told .entry)) r (now (text .exit)) (now (told .exit)) ⌝ }
+    ensures { λ r. ⌜ ListingTold (Lists (plainLines (now (code .entry)) from) from (now (text .entry)))
+        (now (text .entry)) (now (told .entry)) r (now (text .exit)) (now (told .exit)) ⌝ }
 {
     if told.len() < 2 {
         return answers::refused(Refusal::Full(Table::Text));
@@ -261,7 +267,8 @@ pub extern "C" fn tf_check_listing(
     text: &mut [u8],
     told: &mut [u64],
 ) -> u64
-    ensures { λ r. ⌜ ListingTold (ListsChecked (now (code .entry)) (now (depths .entry)) from (now (text .entry))) (now (text .entry)) (now (told .entry)) r (now (text .exit)) (now (told .exit)) ⌝ }
+    ensures { λ r. ⌜ ListingTold (ListsChecked (now (code .entry)) (now (depths .entry)) from (now (text .entry)))
+        (now (text .entry)) (now (told .entry)) r (now (text .exit)) (now (told .exit)) ⌝ }
 {
     if told.len() < 2 {
         return answers::refused(Refusal::Full(Table::Text));
@@ -271,7 +278,8 @@ pub extern "C" fn tf_check_listing(
 
 #[no_mangle]
 pub extern "C" fn tf_location_for_offset(rows: &[u32], offset: usize, out: &mut [u64]) -> u64
-    ensures { λ r. ⌜ Tells (locatedTold (locationOf (now (rows .entry)) offset)) (now (out .entry)) r (now (out .exit)) ⌝ }
+    ensures { λ r. ⌜ Tells (locatedTold (locationOf (now (rows .entry)) offset)) (now (out .entry)) r
+        (now (out .exit)) ⌝ }
 {
     let located = code::lookups::location_for_offset(rows, offset);
     match located {
@@ -282,7 +290,8 @@ pub extern "C" fn tf_location_for_offset(rows: &[u32], offset: usize, out: &mut 
 
 #[no_mangle]
 pub extern "C" fn tf_find_exception_handler(rows: &[u32], offset: u32, out: &mut [u64]) -> u64
-    ensures { λ r. ⌜ Tells (handledTold (handlerOf (now (rows .entry)) offset)) (now (out .entry)) r (now (out .exit)) ⌝ }
+    ensures { λ r. ⌜ Tells (handledTold (handlerOf (now (rows .entry)) offset)) (now (out .entry)) r
+        (now (out .exit)) ⌝ }
 {
     let handled = code::lookups::find_exception_handler(rows, offset);
     match handled {
@@ -308,7 +317,8 @@ pub extern "C" fn tf_find_in_two(rows: &[u32], offset: u32, out: &mut [u64]) -> 
 
 #[no_mangle]
 pub extern "C" fn tf_constant(constants: &[u64], index: usize, out: &mut [u64]) -> u64
-    ensures { λ r. ⌜ Tells (constantTold (constantOf (now (constants .entry)) index)) (now (out .entry)) r (now (out .exit)) ⌝ }
+    ensures { λ r. ⌜ Tells (constantTold (constantOf (now (constants .entry)) index)) (now (out .entry)) r
+        (now (out .exit)) ⌝ }
 {
     let constant = code::lookups::constant(constants, index);
     match constant {

@@ -27,9 +27,11 @@ everyFrom p a (suc m) = p a && everyFrom p (suc a) m
 
 at-offset : (p : ℕ → Bool) (m a k : ℕ) → k < m → T (everyFrom p a m) → T (p (a + k))
 at-offset p zero a k h t = absurd (not-suc-le-zero h)
-at-offset p (suc m) a zero h t = subst (λ (y : ℕ). T (p y)) (sym (add-zero a)) (and-left (p a) (everyFrom p (suc a) m) t)
+at-offset p (suc m) a zero h t =
+    subst (λ (y : ℕ). T (p y)) (sym (add-zero a)) (and-left (p a) (everyFrom p (suc a) m) t)
 at-offset p (suc m) a (suc k) h t =
-    subst (λ (y : ℕ). T (p y)) (suc-add a k ∙ sym (add-suc a k)) (at-offset p m (suc a) k (le-of-suc-le-suc h) (and-right (p a) (everyFrom p (suc a) m) t))
+    subst (λ (y : ℕ). T (p y)) (suc-add a k ∙ sym (add-suc a k))
+    (at-offset p m (suc a) k (le-of-suc-le-suc h) (and-right (p a) (everyFrom p (suc a) m) t))
 
 pub in-range : (p : ℕ → Bool) (a m x : ℕ) → a ≤ x → x < a + m → T (everyFrom p a m) → T (p x)
 in-range p a m x h l t =

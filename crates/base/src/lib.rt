@@ -1,1 +1,2 @@
-// Laws of booleans, lists and keys of a `match` that no one crate owns. No functions: definitions in specs/, laws in proofs/.
+// Laws of booleans, lists and keys of a `match` that no one crate owns. No functions: definitions in specs/, laws in
+// proofs/.

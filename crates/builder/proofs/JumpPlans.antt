@@ -104,11 +104,16 @@ module _ (c : Core) (l : Location) (k cl ll ml : ℕ) where
   pub jump-goes : (s w : ℕ) (a : Depth) → jumpPlanOf c l k cl ll ml ≡ Go a w s → JumpGoes c l k cl ll ml s
   jump-goes s w a e =
       let g = forward-goes s w a e in
-      record { goes = goes-by c l cl ll (g .here) k unpatched 0 w s w a (g .sound) (g .goes); size = g .goes .size; mark = g .mark }
+      record {
+        goes = goes-by c l cl ll (g .here) k unpatched 0 w s w a (g .sound) (g .goes);
+        size = g .goes .size;
+        mark = g .mark;
+      }
 
 -- a jump to a target
 
-pub record ToGoes (c : Core) (l : Location) (k : ℕ) (t : JumpTarget) (cl ll : ℕ) (marks : List ℕ) (s : ℕ) (a : Depth) (w : ℕ) : Type 0 where
+pub record ToGoes (c : Core) (l : Location) (k : ℕ) (t : JumpTarget) (cl ll : ℕ) (marks : List ℕ) (s : ℕ) (a : Depth)
+    (w : ℕ) : Type 0 where
   pub sound : Sound c cl ll
   pub here : ℕ
   pub live : c .depth ≡ Live here
@@ -130,7 +135,8 @@ pub back-live : (c : Core) (l : Location) (k i cl ll ml h e o f : ℕ) (m : Mark
     ≡ alsoRow (bytesOf (c .code) h k (jumpBy (bits (c .code) o)) 0 (bits (c .code) o) cl)
     (rowFits l (c .locations) ll) Locations
 back-live c l k i cl ll ml h e o f m lives takes em meet close =
-    rw em (line-live (toAsked c l k (T.Row i) (Target o f) cl ll ml) h e (rw em at lives) takes refl meet close ∙ also-free _)
+    rw em (line-live (toAsked c l k (T.Row i) (Target o f) cl ll ml) h e (rw em at lives) takes refl meet close
+    ∙ also-free _)
 
 -- the mark that was read is the target's
 pub at-mark : (c : Core) (l : Location) (k i cl ll : ℕ) (marks : List ℕ) (m : Mark) → m ≡ markIn (c .marks) marks i

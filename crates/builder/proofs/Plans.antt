@@ -108,7 +108,13 @@ goes-by c l cl ll d k o n word s w a sd g =
       sound = sd;
       count = g .count;
       written = going k o n (cl - c .code) z
-          (record { shape = after-shape d k o (g .next) (g .falls); few = g .few; count = g .count; size = refl; fits = fits });
+          (record {
+            shape = after-shape d k o (g .next) (g .falls);
+            few = g .few;
+            count = g .count;
+            size = refl;
+            fits = fits;
+          });
       code = fits;
       limit = rw (sym (g .size)) (g .limit);
       row = g .row;

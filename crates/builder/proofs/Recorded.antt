@@ -38,7 +38,8 @@ use Rattle.builder.proofs.Plans.{goes, line-idle}
 
 -- a pushed row
 
-module _ (locations : List ℕ) (rows : ℕ) (row : LocationRow) (free : rows * locationCells + locationCells ≤ length locations) where
+module _ (locations : List ℕ) (rows : ℕ) (row : LocationRow)
+    (free : rows * locationCells + locationCells ≤ length locations) where
   abbrev pushed : List ℕ
   pushed = pushLocation rows row locations
 
@@ -76,15 +77,18 @@ module _ (core : Core) (locations : List ℕ) (before : Behind core locations) w
 
   found : (location : Location) (range : CodeRange) (focus : Focus) → location ≡ Set range focus
       → core .code ≤ codeLimit → rowFits location (core .locations) (length locations) ≡ true
-      → locationOf (usedLocations (rowsAfter location (core .locations)) (locationsAfter location (core .locations) (core .code) locations)) (core .code)
+      → locationOf (usedLocations (rowsAfter location (core .locations))
+      (locationsAfter location (core .locations) (core .code) locations)) (core .code)
       ≡ Row (core .locations) (locationAt (core .code) range focus)
   found location range focus e small =
       subst
       (λ (l : Location). rowFits l (core .locations) (length locations) ≡ true
-      → locationOf (usedLocations (rowsAfter l (core .locations)) (locationsAfter l (core .locations) (core .code) locations)) (core .code)
+      → locationOf (usedLocations (rowsAfter l (core .locations))
+      (locationsAfter l (core .locations) (core .code) locations)) (core .code)
       ≡ Row (core .locations) (locationAt (core .code) range focus))
       (sym e)
-      (λ has. recorded-is-found locations (core .locations) (locationAt (core .code) range focus) has (omega arith) before)
+      (λ has. recorded-is-found locations (core .locations) (locationAt (core .code) range focus) has (omega arith)
+      before)
 
 -- an emission
 
@@ -103,14 +107,17 @@ module _ (b next : Builder) (k name : ℕ) (o : Operand) (ns code locs : List �
       (λ (n : Builder). Behind (n .core) (locationsAfter (b .location) (b .core .locations) (b .core .code) locs)) same
       (stays (b .core) locs before (b .location) s (g .row))
 
-  idle-dead : planOf (b .core) (b .location) k name o (length ns) (length code) (length locs) ≡ Idle → b .core .depth ≡ Dead
+  idle-dead : planOf (b .core) (b .location) k name o (length ns) (length code) (length locs) ≡ Idle
+      → b .core .depth ≡ Dead
   unfolding planOf
   idle-dead e = line-idle (plainAsked (b .core) (b .location) k name o (length ns) (length code) (length locs)) e
 
-  module _ (here : ℕ) (range : CodeRange) (focus : Focus) (live : b .core .depth ≡ Live here) (is : b .location ≡ Set range focus) where
+  module _ (here : ℕ) (range : CodeRange) (focus : Focus) (live : b .core .depth ≡ Live here)
+      (is : b .location ≡ Set range focus) where
     found-by : (p : Plan) → planOf (b .core) (b .location) k name o (length ns) (length code) (length locs) ≡ p
         → outcomeBy b (commitOf p (b .core) (b .location) (encode k o ns) code locs) .answer ≡ Accepted next
-        → Finds (b .core) (next .core) range focus (commitOf p (b .core) (b .location) (encode k o ns) code locs .locations)
+        → Finds (b .core) (next .core) range focus
+        (commitOf p (b .core) (b .location) (encode k o ns) code locs .locations)
     found-by Idle e a =
         let dead = idle-dead e in
         clash cc
@@ -119,7 +126,8 @@ module _ (b next : Builder) (k name : ℕ) (o : Operand) (ns code locs : List �
         let g = goes (b .core) (b .location) k name o (length ns) (length code) (length locs) s w d e in
         let same : withCore b (coreAfter (b .core) (b .location) s d) ≡ next = cc in
         subst
-        (λ (n : Builder). Finds (b .core) (n .core) range focus (locationsAfter (b .location) (b .core .locations) (b .core .code) locs))
+        (λ (n : Builder). Finds (b .core) (n .core) range focus
+        (locationsAfter (b .location) (b .core .locations) (b .core .code) locs))
         same
         (found (b .core) locs before (b .location) range focus is (g .sound .limit) (g .row))
 

@@ -63,7 +63,8 @@ filledNames held name cells = map (λ (cell : ℕ). named cell name) (take held 
 unfoldable pub buildOf : (builder : Builder) (name : ℕ) (cells marks : List ℕ) → Kept
 buildOf builder name cells marks =
     unless
-    (countsOf builder (cellsWithin (builder .names) (length cells) && within markCells (builder .core .marks) (length marks)))
+    (countsOf builder (cellsWithin (builder .names) (length cells)
+    && within markCells (builder .core .marks) (length marks)))
     Unsound cells
     (cond (anyOpen (builder .core .marks) marks)
     (kept (Refused OpenLabel) cells)

@@ -13,18 +13,32 @@ use borrow.Author.Count.{below-more}
 use Rattle.base.proofs.Lists.{getD-any}
 use Rattle.checker.specs.Cells.{cell, held}
 use Rattle.checker.specs.Inner.{Tidied, Cleaned}
-use Rattle.checker.proofs.Holding.{cell-set-same, cell-set-other, held-append, held-le, held-single, held-single-0}
+use Rattle.checker.proofs.Holding.{cell-set-same, cell-set-other, held-append, held-le, held-single}
+use Rattle.checker.proofs.Holding.{held-single-0}
 
 -- one cell
 
 pub tidied-one : (c : List ℕ) (i : ℕ) → i < length c → getD c i 0 ≤ 65535 → Tidied c c i 1
-tidied-one c i l h = record { range = omega arith; one = λ z. (refl, omega (arith, getD-any c i 0 65536 l)); zero = λ z. absurd (omega arith) }
+tidied-one c i l h = record {
+  range = omega arith;
+  one = λ z. (refl, omega (arith, getD-any c i 0 65536 l));
+  zero = λ z. absurd (omega arith);
+}
 
 pub tidied-zero : (c : List ℕ) (i : ℕ) → i < length c → 65535 < getD c i 0 → Tidied c (set c i 65536) i 0
-tidied-zero c i l h = record { range = omega arith; one = λ z. absurd (omega arith); zero = λ z. (refl, omega (arith, getD-any c i 0 65536 l)) }
+tidied-zero c i l h = record {
+  range = omega arith;
+  one = λ z. absurd (omega arith);
+  zero = λ z. (refl, omega (arith, getD-any c i 0 65536 l));
+}
 
 pub cleaned-none : (c : List ℕ) → Cleaned c c 0
-cleaned-none c = record { size = refl; has = λ o l. absurd (not-suc-le-zero l); hasnt = λ o l. absurd (not-suc-le-zero l); above = λ o l. refl }
+cleaned-none c = record {
+  size = refl;
+  has = λ o l. absurd (not-suc-le-zero l);
+  hasnt = λ o l. absurd (not-suc-le-zero l);
+  above = λ o l. refl;
+}
 
 module _ {c₀ c : List ℕ} {i : ℕ} (A : Cleaned c₀ c i) (l : i < length c) where
   cleaned-one : cell c i ≤ 65535 → Cleaned c₀ c (i + 1)
@@ -43,8 +57,10 @@ module _ {c₀ c : List ℕ} {i : ℕ} (A : Cleaned c₀ c i) (l : i < length c)
       let other : (o : ℕ) → (o ≡ i → ⊥) → cell (set c i 65536) o ≡ cell c o = λ o n. cell-set-other c i o 65536 n in
       record {
         size = length-set c i 65536 ∙ A .size;
-        has = below-more (λ o. cell c₀ o ≤ 65535 → cell (set c i 65536) o ≡ cell c₀ o) i (λ o g y. other o (λ e. omega arith) ∙ A .has o g y) (λ g. absurd (omega arith));
-        hasnt = below-more (λ o. 65535 < cell c₀ o → cell (set c i 65536) o ≡ 65536) i (λ o g y. other o (λ e. omega arith) ∙ A .hasnt o g y) (λ g. cell-set-same c i 65536 l);
+        has = below-more (λ o. cell c₀ o ≤ 65535 → cell (set c i 65536) o ≡ cell c₀ o) i
+            (λ o g y. other o (λ e. omega arith) ∙ A .has o g y) (λ g. absurd (omega arith));
+        hasnt = below-more (λ o. 65535 < cell c₀ o → cell (set c i 65536) o ≡ 65536) i
+            (λ o g y. other o (λ e. omega arith) ∙ A .hasnt o g y) (λ g. cell-set-same c i 65536 l);
         above = λ o g. other o (λ e. omega arith) ∙ A .above o (omega arith);
       }
 
@@ -77,10 +93,12 @@ pub held-nil : (c : List ℕ) → 0 ≡ held (take 0 c)
 unfolding held
 held-nil c = refl
 
-pub filled : (d c : List ℕ) (i v : ℕ) → length d ≤ i → i ≤ length d → c ≡ replicate i v ++ drop i d → c ≡ replicate (length d) v
+pub filled : (d c : List ℕ) (i v : ℕ) → length d ≤ i → i ≤ length d → c ≡ replicate i v ++ drop i d
+    → c ≡ replicate (length d) v
 filled d c i v l m e =
     let z : i ≡ length d = omega arith in
-    e ∙ ap (λ (n : ℕ). replicate n v ++ drop n d) z ∙ ap (λ (x : List ℕ). replicate (length d) v ++ x) (drop-length d) ∙ append-nil (replicate (length d) v)
+    e ∙ ap (λ (n : ℕ). replicate n v ++ drop n d) z ∙ ap (λ (x : List ℕ). replicate (length d) v ++ x) (drop-length d)
+    ∙ append-nil (replicate (length d) v)
 
 pub cleaned-end : {c₀ c c₁ : List ℕ} {i k r : ℕ} → Cleaned c₀ c i → k ≡ held (take i c) → i ≤ length c₀ - 1 → length c₀ - 1 ≤ i → 0 < length c₀
     → Tidied c c₁ (length c₀ - 1) r → Cleaned c₀ c₁ (length c₀) × (k ≡ held (take (length c₀ - 1) c₁))
@@ -90,5 +108,8 @@ cleaned-end {c₀} {c} {c₁} {i} {k} {r} A e l m h B =
     let s = A .size in
     let A′ : Cleaned c₀ c (length c₀ - 1) = subst (λ (x : ℕ). Cleaned c₀ c x) z A in
     let y : length c₀ - 1 + 1 ≡ length c₀ = omega arith in
-    let in-c : length c₀ - 1 < length c = omega arith in
-    (subst (λ (x : ℕ). Cleaned c₀ c₁ x) y (cleaned-on A′ in-c B), e ∙ ap (λ (x : ℕ). held (take x c)) z ∙ sym (counted-last in-c B))
+    let in-c : length c₀ - 1 < length c = omega arith in (
+      subst (λ (x : ℕ). Cleaned c₀ c₁ x) y (cleaned-on A′ in-c B),
+      e ∙ ap (λ (x : ℕ). held (take x c)) z
+          ∙ sym (counted-last in-c B),
+    )

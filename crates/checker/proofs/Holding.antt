@@ -49,9 +49,11 @@ pub cell-set-other : (c : List ℕ) (o q d : ℕ) → (q ≡ o → ⊥) → cell
 cell-set-other c o q d n = getD-set-other c o q d 65536 n
 
 -- a store seen at any offset
-pub cell-set : (c : List ℕ) (o d : ℕ) → o < length c → (P : ℕ → ℕ → Type 0) (q : ℕ) → P d o → P (cell c q) q → P (cell (set c o d) q) q
+pub cell-set : (c : List ℕ) (o d : ℕ) → o < length c → (P : ℕ → ℕ → Type 0) (q : ℕ) → P d o → P (cell c q) q
+    → P (cell (set c o d) q) q
 cell-set c o d l P q here there = elim (ℕ-discrete q o) [
-  | yes z ↦ subst (λ (y : ℕ). P (cell (set c o d) y) y) (sym z) (subst (λ (x : ℕ). P x o) (sym (cell-set-same c o d l)) here)
+  | yes z ↦ subst (λ (y : ℕ). P (cell (set c o d) y) y) (sym z)
+      (subst (λ (x : ℕ). P x o) (sym (cell-set-same c o d l)) here)
   | no n ↦ subst (λ (x : ℕ). P x q) (sym (cell-set-other c o q d n)) there
 ]
 

@@ -1,4 +1,5 @@
--- Laws of the promise: how a check keeps it, what callers get from it, and that equal inputs give equal answers and cells.
+-- Laws of the promise: how a check keeps it, what callers get from it, and that equal inputs give equal answers and
+-- cells.
 -- Assumes nothing.
 use mathlib.Core.Path.{_≡_, refl, sym, ap, subst, _∙_}
 use mathlib.Core.Bool.{true, false, _&&_}
@@ -25,7 +26,8 @@ use Rattle.code.specs.Tables.{codeLimit, startCells, within}
 use Rattle.checker.specs.declared.Checked.{Checked}
 use Rattle.checker.specs.declared.Checked.the-variants.{Accepted, Refused}
 use Rattle.checker.specs.Cells.{cell, depthIn}
-use Rattle.checker.specs.Promise.{TooLong, NoRoom, Listed, Astray, Solution, Became, Accepts, Unless, stops, passes, Promise, builtSound, BuiltPromise}
+use Rattle.checker.specs.Promise.{TooLong, NoRoom, Listed, Astray, Solution, Became, Accepts, Unless, stops}
+use Rattle.checker.specs.Promise.{passes, Promise, builtSound, BuiltPromise}
 use Rattle.checker.specs.Statements.{PromiseOne, BuiltOne}
 use Rattle.checker.specs.Inner.{NoFault, Outcome}
 use Rattle.checker.proofs.Holding.{depth-in, in-depth}
@@ -65,7 +67,8 @@ module _ (last : ℕ) (s st d : List ℕ) where
           pub promise-none : (d′ : List ℕ) → Impossible last s st → Became s d d′ (replicate (suc (length s)) 65536)
               → Promise last s st d d′ (Refused NoDepths)
           unfolding Promise
-          promise-none d′ n b = passes long-not (passes room-not (passes whole (passes listed-not (stops NoDepths (refl, n) (refl, b)))))
+          promise-none d′ n b =
+              passes long-not (passes room-not (passes whole (passes listed-not (stops NoDepths (refl, n) (refl, b)))))
 
           pub promise-some : (d′ c : List ℕ) (k : ℕ) → Solution last s st c k → Became s d d′ c
               → Promise last s st d d′ (Accepted k)
@@ -89,7 +92,8 @@ part-size d n l = length-take-le (n + 1) d (omega arith) ∙ add-one n
 -- how a check of a builder's code keeps its own
 
 -- sound counts are within what is lent
-pub built-within : (b : Builder) (cl sl : ℕ) → builtSound b cl sl ≡ true → (b .core .code ≤ cl) × (b .starts * startCells ≤ sl)
+pub built-within : (b : Builder) (cl sl : ℕ) → builtSound b cl sl ≡ true
+    → (b .core .code ≤ cl) × (b .starts * startCells ≤ sl)
 unfolding builtSound
 built-within b cl sl e =
     let p = and-true (leb (b .core .code) cl && leb (b .core .code) codeLimit) (within startCells (b .starts) sl) e in
@@ -111,7 +115,8 @@ module _ (b : Builder) (s st d : List ℕ) where
 -- what callers get from it
 
 -- what is behind a stop, where there was none
-past : {P A : Refusal → Type 0} {B C : Type 0} → Unless P A B → ((q : Refusal) → A q → C) → (((q : Refusal) → P q → ⊥) → B → C) → C
+past : {P A : Refusal → Type 0} {B C : Type 0} → Unless P A B → ((q : Refusal) → A q → C)
+    → (((q : Refusal) → P q → ⊥) → B → C) → C
 past (stops q p a) no-way on = no-way q a
 past (passes n b) no-way on = on n b
 
@@ -144,7 +149,8 @@ accepted-when {last} {s} {st} {d} P short room whole listed a A =
 
 -- equal inputs, equal answers
 
-unless-one : {P A₁ A₂ : Refusal → Type 0} {B₁ B₂ C : Type 0} → ((p q : Refusal) → P p → P q → p ≡ q) → ((q : Refusal) → A₁ q → A₂ q → C) → (B₁ → B₂ → C)
+unless-one : {P A₁ A₂ : Refusal → Type 0} {B₁ B₂ C : Type 0} → ((p q : Refusal) → P p → P q → p ≡ q)
+    → ((q : Refusal) → A₁ q → A₂ q → C) → (B₁ → B₂ → C)
     → Unless P A₁ B₁ → Unless P A₂ B₂ → C
 unless-one {A₁} one both on (stops p x a) (stops q y b) = both q (subst A₁ (one p q x y) a) b
 unless-one one both on (stops p x a) (passes n b) = absurd (n p x)
@@ -157,7 +163,8 @@ named-one x p q e h = e ∙ sym h
 
 -- two solutions are the same cells, with the same count
 
-cell-one : (a b : List ℕ) (o : ℕ) → depthIn a o ≡ depthIn b o → cell a o ≤ 65536 → cell b o ≤ 65536 → cell a o ≡ cell b o
+cell-one : (a b : List ℕ) (o : ℕ) → depthIn a o ≡ depthIn b o → cell a o ≤ 65536 → cell b o ≤ 65536
+    → cell a o ≡ cell b o
 cell-one a b o e l m = elim (decLe (cell a o) 65535) [
   | yes g ↦ sym (in-depth b o (cell a o) (sym e ∙ depth-in a o (cell a o) refl g) .0)
   | no g ↦ elim (decLe (cell b o) 65535) [
@@ -168,7 +175,8 @@ cell-one a b o e l m = elim (decLe (cell a o) 65535) [
 
 module _ {last : ℕ} {s st c e : List ℕ} {k m : ℕ} (A : Solution last s st c k) (B : Solution last s st e m) where
   pub solution-cells : c ≡ e
-  solution-cells = ext-getD 65536 c e (A .size ∙ sym (B .size)) (λ o l. cell-one c e o (smallest-agree (A .smallest) (B .smallest) o) (A .others o) (B .others o))
+  solution-cells = ext-getD 65536 c e (A .size ∙ sym (B .size))
+      (λ o l. cell-one c e o (smallest-agree (A .smallest) (B .smallest) o) (A .others o) (B .others o))
 
   pub solution-count : k ≡ m
   solution-count = counts-one (smallest-agree (A .smallest) (B .smallest)) (A .count) (B .count)
@@ -183,14 +191,18 @@ promise-one last s st d d₁ d₂ r₁ r₂ P Q =
     (unless-one (λ p q x y. named-one NoDepths p q (x .0) (y .0)) kept
     both)))) P Q
   where
-    kept : {x : List ℕ} (q : Refusal) → (r₁ ≡ Refused q) × (d₁ ≡ x) → (r₂ ≡ Refused q) × (d₂ ≡ x) → (r₁ ≡ r₂) × (d₁ ≡ d₂)
+    kept : {x : List ℕ} (q : Refusal) → (r₁ ≡ Refused q) × (d₁ ≡ x) → (r₂ ≡ Refused q) × (d₂ ≡ x)
+        → (r₁ ≡ r₂) × (d₁ ≡ d₂)
     kept q a b = (a .0 ∙ sym (b .0), a .1 ∙ sym (b .1))
 
     both : Accepts last s st d d₁ r₁ → Accepts last s st d d₂ r₂ → (r₁ ≡ r₂) × (d₁ ≡ d₂)
     both A B =
         let e = solution-cells (A .solution) (B .solution) in
-        let h = solution-count (A .solution) (B .solution) in
-        (A .answer ∙ ap Accepted h ∙ sym (B .answer), A .became ∙ ap (λ (c : List ℕ). c ++ drop (suc (length s)) d) e ∙ sym (B .became))
+        let h = solution-count (A .solution) (B .solution) in (
+          A .answer ∙ ap Accepted h ∙ sym (B .answer),
+          A .became ∙ ap (λ (c : List ℕ). c ++ drop (suc (length s)) d) e
+              ∙ sym (B .became),
+        )
 
 pub built-one : BuiltOne
 unfolding BuiltPromise

@@ -1,9 +1,10 @@
--- What antt can compute of paths and of the reading of the code: depths that some steps from the starts lead to, offsets that
--- reading comes to. The certificate of an assignment rests on it.
+-- What antt can compute of paths and of the reading of the code: depths that some steps from the starts lead to,
+-- offsets that reading comes to. The certificate of an assignment rests on it.
 -- Assumes nothing.
 use mathlib.Core.Path.{_≡_, refl, sym, ap, subst, _∙_}
 use mathlib.Core.Bool.{Bool, true, false, cond, _||_}
-use mathlib.Core.List.{List, [], _∷_, _++_, List·Memᴰ, List·Memᴰ·head, List·Memᴰ·tail, List·Memᴰ·cases-cons, List·Memᴰ·not-nil, List·Memᴰ·append-cases}
+use mathlib.Core.List.{List, [], _∷_, _++_, List·Memᴰ, List·Memᴰ·head, List·Memᴰ·tail, List·Memᴰ·cases-cons}
+use mathlib.Core.List.{List·Memᴰ·not-nil, List·Memᴰ·append-cases}
 use mathlib.Core.Logic.{⊎-elim}
 use mathlib.Core.Option.{Option, some, none}
 use Prim.Native.Nat.{ℕ, zero, suc, _+_, _*_}
@@ -100,7 +101,8 @@ begins-in (x ∷ (y ∷ st)) o d m = ⊎-elim here (λ j. begins-more x y st o d
         record { row = 0; inside = omega arith; offset = a; depth = b }
 
 gives-in : (t : ℕ) (x : After) (q e : ℕ) → List·Memᴰ (given q e) (gives t x) → (t ≡ q) × (x ≡ A.Depth e)
-gives-in t (A.Depth g) q e m = ⊎-elim (λ z. (let a : t ≡ q = cc in let b : A.Depth g ≡ A.Depth e = cc in (a, b))) (λ j. absurd (List·Memᴰ·not-nil j)) (List·Memᴰ·cases-cons m)
+gives-in t (A.Depth g) q e m = ⊎-elim (λ z. (let a : t ≡ q = cc in let b : A.Depth g ≡ A.Depth e = cc in (a, b)))
+    (λ j. absurd (List·Memᴰ·not-nil j)) (List·Memᴰ·cases-cons m)
 gives-in t (A.Refused r) q e m = absurd (List·Memᴰ·not-nil m)
 
 module _ {last : ℕ} (s st : List ℕ) where
@@ -135,7 +137,8 @@ module _ {last : ℕ} (s st : List ℕ) where
   pub reached-derived : (k o d : ℕ) → List·Memᴰ (given o d) (reached last s st k) → Derived last s st o d
   reached-derived zero o d m = start (begins-in st o d m)
   reached-derived (suc k) o d m =
-      ⊎-elim (λ j. start (begins-in st o d j)) (steps-derived (reached last s st k) (reached-derived k) o d) (List·Memᴰ·append-cases (pairs st) m)
+      ⊎-elim (λ j. start (begins-in st o d j)) (steps-derived (reached last s st k) (reached-derived k) o d)
+      (List·Memᴰ·append-cases (pairs st) m)
 
 -- the reading of the code, as tests
 

@@ -2,7 +2,8 @@
 -- Assumes nothing.
 use mathlib.Core.Path.{_≡_, refl, sym, ap, subst, _∙_}
 use mathlib.Core.Bool.{Bool, true, false, cond}
-use mathlib.Core.List.{List, [], _∷_, List·Memᴰ, List·Memᴰ·head, List·Memᴰ·tail, List·Memᴰ·cases-cons, List·Memᴰ·not-nil}
+use mathlib.Core.List.{List, [], _∷_, List·Memᴰ, List·Memᴰ·head, List·Memᴰ·tail, List·Memᴰ·cases-cons}
+use mathlib.Core.List.{List·Memᴰ·not-nil}
 use mathlib.Core.Logic.{_⊎_, ⊎-elim, inl, inr}
 use mathlib.Core.Option.{Option, some}
 use Prim.Native.Nat.{ℕ, zero, suc, _+_, _-_, _≤_, _<_}
@@ -67,7 +68,15 @@ module _ {last : ℕ} {s st : List ℕ} {a b : ℕ → Option ℕ} (same : (o : 
       let N = K .falls in
       record {
         falls = record { depth = N .depth; leads = N .leads; has = λ y. same (o + f .size) ∙ N .has y };
-        jumps = λ j. (let J = K .jumps j in record { target = J .target; depth = J .depth; goes = J .goes; leads = J .leads; has = same (J .target) ∙ J .has });
+        jumps = λ j. (let J = K .jumps j in
+            record {
+              target = J .target;
+              depth = J .depth;
+              goes = J .goes;
+              leads = J .leads;
+              has = same (J .target)
+                  ∙ J .has;
+            });
       }
 
   pub assigns-same : Assigns last s st b
@@ -117,7 +126,8 @@ unfolding offsets
 offsets-rising i [] = tt
 offsets-rising i (x ∷ c) = one (leb x 65535) (offsets-rising (suc i) c)
   where
-    one : (b : Bool) → Rising (suc i) (offsets (suc i) c) → Rising i (cond b (i ∷ offsets (suc i) c) (offsets (suc i) c))
+    one : (b : Bool) → Rising (suc i) (offsets (suc i) c)
+        → Rising i (cond b (i ∷ offsets (suc i) c) (offsets (suc i) c))
     one true r = (omega arith, r)
     one false r = rising-lower i (suc i) (offsets (suc i) c) (omega arith) r
 
@@ -129,7 +139,8 @@ record Deep (i : ℕ) (c : List ℕ) (o : ℕ) : Type 0 where
   holds : getD c steps 65536 ≤ 65535
 
 deep-more : (i x : ℕ) (c : List ℕ) (o : ℕ) → Deep (suc i) c o → Deep i (x ∷ c) o
-deep-more i x c o D = let h = D .inside in record { steps = suc (D .steps); is = omega (arith, D .is); inside = omega arith; holds = D .holds }
+deep-more i x c o D = let h =
+    D .inside in record { steps = suc (D .steps); is = omega (arith, D .is); inside = omega arith; holds = D .holds }
 
 offsets-deep : (i : ℕ) (c : List ℕ) (o : ℕ) → List·Memᴰ o (offsets i c) → Deep i c o
 unfolding offsets
@@ -138,16 +149,21 @@ offsets-deep i (x ∷ c) o m = one (leb x 65535) refl (λ j. deep-more i x c o (
   where
     one : (b : Bool) → leb x 65535 ≡ b → (List·Memᴰ o (offsets (suc i) c) → Deep i (x ∷ c) o)
         → List·Memᴰ o (cond b (i ∷ offsets (suc i) c) (offsets (suc i) c)) → Deep i (x ∷ c) o
-    one true e later k = ⊎-elim (λ z. record { steps = 0; is = omega arith; inside = omega arith; holds = leb-true x 65535 e }) later (List·Memᴰ·cases-cons k)
+    one true e later k = ⊎-elim
+        (λ z. record { steps = 0; is = omega arith; inside = omega arith; holds = leb-true x 65535 e }) later
+        (List·Memᴰ·cases-cons k)
     one false e later k = later k
 
-offsets-all : (i : ℕ) (c : List ℕ) (j o : ℕ) → o ≡ i + j → j < length c → getD c j 65536 ≤ 65535 → List·Memᴰ o (offsets i c)
+offsets-all : (i : ℕ) (c : List ℕ) (j o : ℕ) → o ≡ i + j → j < length c → getD c j 65536 ≤ 65535
+    → List·Memᴰ o (offsets i c)
 unfolding offsets
 offsets-all i [] j o w l h = absurd (not-suc-le-zero l)
 offsets-all i (x ∷ c) zero o w l h = rw (le-leb x 65535 h) (List·Memᴰ·head {x = i} (omega arith))
-offsets-all i (x ∷ c) (suc j) o w l h = one (leb x 65535) (offsets-all (suc i) c j o (omega arith) (le-of-suc-le-suc l) h)
+offsets-all i (x ∷ c) (suc j) o w l h =
+    one (leb x 65535) (offsets-all (suc i) c j o (omega arith) (le-of-suc-le-suc l) h)
   where
-    one : (b : Bool) → List·Memᴰ o (offsets (suc i) c) → List·Memᴰ o (cond b (i ∷ offsets (suc i) c) (offsets (suc i) c))
+    one : (b : Bool) → List·Memᴰ o (offsets (suc i) c)
+        → List·Memᴰ o (cond b (i ∷ offsets (suc i) c) (offsets (suc i) c))
     one true m = List·Memᴰ·tail m
     one false m = m
 
@@ -158,7 +174,8 @@ stands-by s o (F.Op f) e whole p l = (f, record { is = e })
 stands-by {last} s o F.End e whole p l = absurd (omega (arith, ends-over last s o e))
 stands-by s o (F.Refused q) e whole p l = absurd (whole q (faulty-at p e))
 
-module _ {last : ℕ} {s st : List ℕ} (c : List ℕ) (whole : NoFault last s) (A : Assigns last s st (depthIn c)) (size : length c ≡ suc (length s)) where
+module _ {last : ℕ} {s st : List ℕ} (c : List ℕ) (whole : NoFault last s) (A : Assigns last s st (depthIn c))
+    (size : length c ≡ suc (length s)) where
   fits : length (take (length s) c) ≡ length s
   fits = length-take-le (length s) c (omega arith)
 
@@ -168,7 +185,8 @@ module _ {last : ℕ} {s st : List ℕ} (c : List ℕ) (whole : NoFault last s) 
       let D = offsets-deep 0 (take (length s) c) o m in
       let z : D .steps ≡ o = omega (arith, D .is) in
       let l : o < length s = omega (arith, D .inside, fits) in
-      let h : cell c o ≤ 65535 = subst (λ (x : ℕ). x ≤ 65535) (ap (λ (x : ℕ). getD (take (length s) c) x 65536) z ∙ getD-take (length s) c o 65536 l) (D .holds) in
+      let h : cell c o ≤ 65535 = subst (λ (x : ℕ). x ≤ 65535)
+      (ap (λ (x : ℕ). getD (take (length s) c) x 65536) z ∙ getD-take (length s) c o 65536 l) (D .holds) in
       let e = depth-in c o (cell c o) refl h in
       let p = A .places o (cell c o) e .0 in
       let g = stands-by s o (flowOf last o (drop o s)) refl whole p l in
@@ -206,5 +224,6 @@ solution {last} {s} {st} {c} {c′} whole S A B k e h =
       smallest = smallest A′ D;
       others = cleaned-small B;
       derived = D;
-      count = subst (λ (x : ℕ). Counts last s (depthIn c′) x) (sym (h ∙ ap (λ (n : ℕ). held (take n c′)) y)) (counted c′ whole A′ (B .size ∙ e));
+      count = subst (λ (x : ℕ). Counts last s (depthIn c′) x) (sym (h ∙ ap (λ (n : ℕ). held (take n c′)) y))
+          (counted c′ whole A′ (B .size ∙ e));
     }

@@ -45,7 +45,8 @@ falls-on A F = record { depth = F .depth; leads = F .leads; has = λ y. A .keeps
 kept-on : {c c′ : List ℕ} {f : Flow} {o d r : ℕ} → Stepped c c′ r → Kept (depthIn c) f o d → Kept (depthIn c′) f o d
 kept-on {c} {c′} {f} {o} {d} A K = record {
   falls = falls-on A (K .falls);
-  jumps = λ j. (let J = K .jumps j in record { target = J .target; depth = J .depth; goes = J .goes; leads = J .leads; has = A .keeps _ _ (J .has) });
+  jumps = λ j. (let J = K .jumps j in
+      record { target = J .target; depth = J .depth; goes = J .goes; leads = J .leads; has = A .keeps _ _ (J .has) });
 }
 
 -- one instruction
@@ -67,7 +68,8 @@ relaxed-fault s c at n = record {
   ahead = λ z o k. refl;
 }
 
-module _ {last : ℕ} (s c c₁ : List ℕ) (at a : ℕ) (f : Flow) (lc : at < length c) (small : getD c at 0 ≤ 65535) (h : Stands last s at f) (A : Fell f c c₁ at (getD c at 0) a) where
+module _ {last : ℕ} (s c c₁ : List ℕ) (at a : ℕ) (f : Flow) (lc : at < length c) (small : getD c at 0 ≤ 65535)
+    (h : Stands last s at f) (A : Fell f c c₁ at (getD c at 0) a) where
   at-depth : depthIn c at ≡ some (getD c at 0)
   at-depth = depth-in c at (getD c at 0) (getD-any c at 65536 0 lc) small
 
@@ -98,7 +100,8 @@ module _ {last : ℕ} (s c c₁ : List ℕ) (at a : ℕ) (f : Flow) (lc : at < l
               B .follows last s st (A .follows last s st S D h .sound (omega arith)) D h;
           kept = λ z g d e y.
               subst (λ (x : Flow). Kept (depthIn c₂) x at d) (stands-one h y)
-              (subst (λ (x : ℕ). Kept (depthIn c₂) f at x) (one (B .step .keeps at _ (A .step .keeps at _ at-depth)) e) (respected z));
+              (subst (λ (x : ℕ). Kept (depthIn c₂) f at x) (one (B .step .keeps at _ (A .step .keeps at _ at-depth)) e)
+              (respected z));
           ahead = λ z o l. B .ahead z o l ∙ A .touch .only o (λ y. omega (arith, stands-size h));
         }
 
@@ -142,7 +145,8 @@ module _ {last : ℕ} {s c c₁ c₂ : List ℕ} {at m r : ℕ} (A : Swept last 
         follows = sound-on m small (omega arith);
         kept = λ z.
             below-more (KeptAt last s c₂) at
-            (λ o l f d h e. kept-on (B .step) (A .kept z o l f d (sym (depth-same c₁ c₂ o (B .ahead i o (omega arith))) ∙ h) e))
+            (λ o l f d h e. kept-on (B .step)
+            (A .kept z o l f d (sym (depth-same c₁ c₂ o (B .ahead i o (omega arith))) ∙ h) e))
             (B .kept (omega arith));
       }
 

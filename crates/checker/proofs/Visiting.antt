@@ -1,4 +1,5 @@
--- What a visit of one cell shows, and what one instruction asks of the cells it goes to. One law for each return of the code.
+-- What a visit of one cell shows, and what one instruction asks of the cells it goes to. One law for each return of
+-- the code.
 -- Assumes nothing.
 use mathlib.Core.Path.{_≡_, refl, sym, ap, subst, _∙_}
 use mathlib.Core.Bool.{true, false}
@@ -16,15 +17,25 @@ use Rattle.code.specs.Depths.{Place, Impossible, Derived, fall, jump}
 use Rattle.code.proofs.Assigning.{derived-in, leads, leads-is, clash-net, clash-outside, clash-taken}
 use Rattle.checker.specs.Cells.{cell}
 use Rattle.checker.specs.Inner.{Sound, Stepped, Follows, Touched, Ahead, Landed, Visited, Arrived, Fell, Jumped}
-use Rattle.checker.proofs.Holding.{depth-in, in-depth, cell-set, cell-set-same, cell-set-other, cell-in, held-set}
+use Rattle.checker.proofs.Holding.{depth-in, in-depth, cell-set, cell-set-same, cell-set-other, cell-in}
+use Rattle.checker.proofs.Holding.{held-set}
 
 -- changes
 
 pub landed-low : (d : ℕ) (c : Change) → d + c .up < c .down → Landed d c 65536
-landed-low d c l = record { small = omega arith; leads = λ h. absurd (omega arith); out = λ h e k. omega (arith, leads-is d c e k .0) }
+landed-low d c l = record {
+  small = omega arith;
+  leads = λ h. absurd (omega arith);
+  out = λ h e k. omega (arith, leads-is d c e k .0);
+}
 
 pub landed-high : (d : ℕ) (c : Change) (t : ℕ) → t + c .down ≡ d + c .up → 65535 < t → Landed d c 65536
-landed-high d c t h l = record { small = omega arith; leads = λ k. absurd (omega arith); out = λ g e k. let z = leads-is d c e k in omega arith }
+landed-high d c t h l = record {
+  small = omega arith;
+  leads = λ k. absurd (omega arith);
+  out = λ g e k. let z =
+      leads-is d c e k in omega arith;
+}
 
 pub landed : (d : ℕ) (c : Change) (t : ℕ) → t + c .down ≡ d + c .up → t ≤ 65535 → Landed d c t
 landed d c t h l = record { small = omega arith; leads = λ k. leads d c t h l; out = λ g. absurd (omega arith) }
@@ -65,7 +76,12 @@ pub still : (c : List ℕ) (r : ℕ) → r ≤ 2 → (r ≡ 1 → ⊥) → Stepp
 still c r l n = record { size = refl; range = l; grows = λ g. omega arith; keeps = λ o d h. h }
 
 pub untouched : (c : List ℕ) (o r : ℕ) → (r ≡ 1 → ⊥) → Touched c c o r
-untouched c o r n = record { same = λ e. refl; only = λ q h. refl; within = λ e. absurd (n e); weigh = λ e. omega arith }
+untouched c o r n = record {
+  same = λ e. refl;
+  only = λ q h. refl;
+  within = λ e. absurd (n e);
+  weigh = λ e. omega arith;
+}
 
 -- nothing is asked, or what is asked cannot be
 pub nothing : {last : ℕ} {s st c : List ℕ} → Sound last s st c → Follows last s st c 0
@@ -118,7 +134,12 @@ module _ (c : List ℕ) (o d : ℕ) where
         };
         follows = λ last s st S D. record { sound = λ z. sound-set S w D small; stuck = λ z. absurd (omega arith) };
         put = λ z. depth-in (set c o d) o d (cell-set-same c o d l) small;
-        touch = record { same = λ z. absurd (omega arith); only = λ q n. cell-set-other c o q d n; within = λ z. l; weigh = λ z. omega arith };
+        touch = record {
+          same = λ z. absurd (omega arith);
+          only = λ q n. cell-set-other c o q d n;
+          within = λ z. l;
+          weigh = λ z. omega arith;
+        };
       }
 
 -- arrivals
@@ -144,24 +165,35 @@ module _ (c : List ℕ) (o d : ℕ) (change : Change) (t : ℕ) (L : Landed d ch
     W .touch,
   )
 
-module _ (c c′ : List ℕ) (at o d : ℕ) (change : Change) (r : ℕ) (W : Arrived c c′ o d change r) (U : Touched c c′ o r) where
-  pub hopped-over : r ≡ 1 → at < o → Arrived c c′ o d change 0 × (_≡_ {A = ℕ} 0 0 → Ahead c c′ at)
-  hopped-over e l = (
-    record {
-      step = record { size = W .step .size; range = omega arith; grows = λ z. (let g = W .step .grows (omega arith) in omega arith); keeps = W .step .keeps };
-      follows = λ last s st S to no-way. record { sound = λ z. W .follows last s st S to no-way .sound (omega arith); stuck = λ z. absurd (omega arith) };
-      put = λ z. W .put (omega arith);
-    },
-    λ z q k. U .only q (λ y. omega arith),
-  )
+module _ (c c′ : List ℕ) (at o d : ℕ) (change : Change) (r : ℕ) (W : Arrived c c′ o d change r) (U : Touched c c′ o r)
+  where
+    pub hopped-over : r ≡ 1 → at < o → Arrived c c′ o d change 0 × (_≡_ {A = ℕ} 0 0 → Ahead c c′ at)
+    hopped-over e l = (
+      record {
+        step = record {
+          size = W .step .size;
+          range = omega arith;
+          grows = λ z. (let g = W .step .grows (omega arith) in omega arith);
+          keeps = W .step .keeps;
+        };
+        follows = λ last s st S to no-way.
+            record {
+              sound = λ z. W .follows last s st S to no-way .sound (omega arith);
+              stuck = λ z. absurd (omega arith);
+            };
+        put = λ z. W .put (omega arith);
+      },
+      λ z q k. U .only q (λ y. omega arith),
+    )
 
-  pub hopped : Arrived c c′ o d change r × (r ≡ 0 → Ahead c c′ at)
-  hopped = (W, λ e q k. ap (λ (x : List ℕ). cell x q) (U .same e))
+    pub hopped : Arrived c c′ o d change r × (r ≡ 0 → Ahead c c′ at)
+    hopped = (W, λ e q k. ap (λ (x : List ℕ). cell x q) (U .same e))
 
 -- falling through
 
 module _ (f : Flow) (c : List ℕ) (at d : ℕ) where
-  pub fell-on : (c′ : List ℕ) (r : ℕ) → f .falls ≡ true → Arrived c c′ (at + f .size) d (f .net) r → Touched c c′ (at + f .size) r → Fell f c c′ at d r
+  pub fell-on : (c′ : List ℕ) (r : ℕ) → f .falls ≡ true → Arrived c c′ (at + f .size) d (f .net) r
+      → Touched c c′ (at + f .size) r → Fell f c c′ at d r
   fell-on c′ r fl W U = record {
     step = W .step;
     follows = λ last s st S D h. W .follows last s st S (λ e l. fall D h fl l refl) (clash-net D h);
@@ -205,7 +237,8 @@ module _ (f : Flow) (c : List ℕ) (at d : ℕ) where
     ahead = λ z. absurd (omega arith);
   }
 
-  pub jumped-on : (c′ : List ℕ) (t r : ℕ) → f .goal ≡ To t → Arrived c c′ t d (f .taken) r → (r ≡ 0 → Ahead c c′ at) → Jumped f c c′ at d r
+  pub jumped-on : (c′ : List ℕ) (t r : ℕ) → f .goal ≡ To t → Arrived c c′ t d (f .taken) r → (r ≡ 0 → Ahead c c′ at)
+      → Jumped f c c′ at d r
   jumped-on c′ t r g W U = record {
     step = W .step;
     follows = λ last s st S D h. W .follows last s st S (λ e l. jump D h g l) (clash-taken D h g);

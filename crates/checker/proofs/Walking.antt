@@ -23,7 +23,8 @@ use Rattle.code.specs.Decode.{decode}
 use Rattle.code.specs.Flow.{flowBy, flowOf}
 use Rattle.code.specs.Depths.{Stands, Place, Derived, start}
 use Rattle.code.proofs.Flows.{flow-op, flow-end, flow-refused}
-use Rattle.code.proofs.Places.{stands-size, stands-no-fault, ends-over, place-first, place-next, place-le, gap, between, faulty-at, whole-at}
+use Rattle.code.proofs.Places.{stands-size, stands-no-fault, ends-over, place-first, place-next, place-le, gap, between}
+use Rattle.code.proofs.Places.{faulty-at, whole-at}
 use Rattle.checker.specs.Cells.{cell, depthIn}
 use Rattle.checker.specs.Promise.{Listed}
 use Rattle.checker.specs.Inner.{Sound, Visited, Sized, stopOf, NoFault, Walked, Marked, Placed}
@@ -39,10 +40,16 @@ module _ {last : ℕ} {s : List ℕ} {at : ℕ} where
   sized k o z e = stands-sized {f = flowBy (at + z) (length s) k o z} (record { is = sym (flow-op last at s k o z e) })
 
   pub sized-end : decode last at (drop at s) ≡ End → Sized last s at 0
-  sized-end e = record { stands = λ n. absurd (n refl); none = λ y f h. (let i = flow-end last at s e in let j = h .is in clash cc) }
+  sized-end e = record {
+    stands = λ n. absurd (n refl);
+    none = λ y f h. (let i = flow-end last at s e in let j = h .is in clash cc);
+  }
 
   pub sized-fault : (q : Refusal) → decode last at (drop at s) ≡ Refused q → Sized last s at 0
-  sized-fault q e = record { stands = λ n. absurd (n refl); none = λ y f h. stands-no-fault h (sym (flow-refused last at s q e)) }
+  sized-fault q e = record {
+    stands = λ n. absurd (n refl);
+    none = λ y f h. stands-no-fault h (sym (flow-refused last at s q e));
+  }
 
   module _ {z : ℕ} (Z : Sized last s at z) (n : z ≡ 0 → ⊥) where
     pub sized-in : (0 < z) × (at + z ≤ length s)
@@ -92,7 +99,11 @@ pub seeking-on : {last : ℕ} {s : List ℕ} {o at z : ℕ} → Seeking last s o
     → Seeking last s o (at + z)
 seeking-on {s} {o} {at} {z} A lo Z n = record {
   here = next-place Z n (A .here);
-  ahead = λ p. elim (decLt o (at + z)) [ yes l ↦ absurd (⊎-elim (λ y. omega arith) (λ y. omega arith) (next-after Z n (A .here) o p l)) | no l ↦ omega arith ];
+  ahead = λ p. elim (decLt o (at + z)) [
+    | yes l ↦ absurd (⊎-elim (λ y. omega arith) (λ y. omega arith) (next-after Z n (A .here) o p l))
+    | no l ↦
+        omega arith
+  ];
 }
 
 pub seeking-fault : {last : ℕ} {s : List ℕ} {o at z : ℕ} → Seeking last s o at → at < o → Sized last s at z → z ≡ 0
@@ -115,7 +126,8 @@ stopped-by {at} whole p Z (F.Refused q) e = absurd (whole q (faulty-at p e))
 
 pub stopped-over : {last : ℕ} {s : List ℕ} {at z : ℕ} → NoFault last s → Place last s at → Sized last s at z → z ≡ 0
     → length s ≤ at
-stopped-over {last} {s} {at} whole p Z e = stopped-by whole p (subst (Sized last s at) e Z) (flowOf last at (drop at s)) refl
+stopped-over {last} {s} {at} whole p Z e =
+    stopped-by whole p (subst (Sized last s at) e Z) (flowOf last at (drop at s)) refl
 
 pub record Marking (last : ℕ) (s c₀ c : List ℕ) (at : ℕ) : Type 0 where
   pub size : length c ≡ length c₀
@@ -125,14 +137,22 @@ pub record Marking (last : ℕ) (s c₀ c : List ℕ) (at : ℕ) : Type 0 where
   pub only : (o : ℕ) → (cell c o ≡ 65536) ⊎ ((cell c o ≡ 65537) × Place last s o)
 
 pub marking-none : {last : ℕ} {s c : List ℕ} → ((o : ℕ) → cell c o ≡ 65536) → Marking last s c c 0
-marking-none h = record { size = refl; here = place-first; inside = omega arith; place = λ o p l. absurd (not-suc-le-zero l); only = λ o. inl (h o) }
+marking-none h = record {
+  size = refl;
+  here = place-first;
+  inside = omega arith;
+  place = λ o p l. absurd (not-suc-le-zero l);
+  only = λ o. inl (h o);
+}
 
 module _ {last : ℕ} {s c₀ c : List ℕ} {at : ℕ} (A : Marking last s c₀ c at) (lc : at < length c) where
   put-only : (o : ℕ) → (cell (set c at 65537) o ≡ 65536) ⊎ ((cell (set c at 65537) o ≡ 65537) × Place last s o)
-  put-only o = cell-set c at 65537 lc (λ x y. (x ≡ 65536) ⊎ ((x ≡ 65537) × Place last s y)) o (inr (refl, A .here)) (A .only o)
+  put-only o = cell-set c at 65537 lc (λ x y. (x ≡ 65536) ⊎ ((x ≡ 65537) × Place last s y)) o (inr (refl, A .here))
+      (A .only o)
 
   put-place : (o : ℕ) → Place last s o → (o < at) ⊎ (o ≡ at) → cell (set c at 65537) o ≡ 65537
-  put-place o p k = ⊎-elim (λ l. cell-set-other c at o 65537 (λ z. omega arith) ∙ A .place o p l) (λ z. ap (cell (set c at 65537)) z ∙ cell-set-same c at 65537 lc) k
+  put-place o p k = ⊎-elim (λ l. cell-set-other c at o 65537 (λ z. omega arith) ∙ A .place o p l)
+      (λ z. ap (cell (set c at 65537)) z ∙ cell-set-same c at 65537 lc) k
 
   pub marking-on : {z : ℕ} → Sized last s at z → (z ≡ 0 → ⊥) → Marking last s c₀ (set c at 65537) (at + z)
   marking-on Z n = record {
@@ -145,7 +165,8 @@ module _ {last : ℕ} {s c₀ c : List ℕ} {at : ℕ} (A : Marking last s c₀ 
 
   pub marked-all : length s ≤ at → Marked last s (set c at 65537)
   marked-all l = record {
-    place = λ o p. put-place o p (let h = place-le p in elim (decLt o at) [ yes a ↦ inl a | no a ↦ inr (let i = A .inside in omega arith) ]);
+    place = λ o p. put-place o p (let h = place-le p in elim (decLt o at)
+        [ yes a ↦ inl a | no a ↦ inr (let i = A .inside in omega arith) ]);
     only = put-only;
   }
 
@@ -155,7 +176,8 @@ marked-sound {s} {st} {c} A = record {
   small = λ o. ⊎-elim (λ e. omega arith) (λ e. omega (arith, e .0)) (A .only o);
   marked = λ o p e. omega (arith, A .place o p);
   place = λ o n. ⊎-elim (λ e. absurd (n e)) (λ e. e .1) (A .only o);
-  derived = λ o d h. (let i = in-depth c o d h in absurd (⊎-elim (λ e. omega arith) (λ e. omega (arith, e .0)) (A .only o)));
+  derived = λ o d h. (let i = in-depth c o d h in
+      absurd (⊎-elim (λ e. omega arith) (λ e. omega (arith, e .0)) (A .only o)));
 }
 
 -- starts
@@ -194,7 +216,8 @@ module _ {st c₀ c c₁ : List ℕ} {k r o d : ℕ} (A : Placing st c₀ c k) (
 pub placed-yes : {st c₀ c : List ℕ} {k : ℕ} → Placing st c₀ c k → length st ≤ 2 * k + 1 → Placed st c₀ c true
 placed-yes {st} {c₀} {c} {k} A l = record {
   size = A .size;
-  has = λ z o d b. sym (ap (depthIn c) (b .offset)) ∙ A .has (b .row) (let h = b .inside in omega arith) ∙ ap some (b .depth);
+  has = λ z o d b. sym (ap (depthIn c) (b .offset)) ∙ A .has (b .row) (let h = b .inside in omega arith)
+      ∙ ap some (b .depth);
   sound = λ z. A .sound;
   stuck = λ z. absurd (true≢false z);
 }

@@ -1,5 +1,5 @@
--- What the checker's inner functions promise one another. `last` is the last opcode of the table; c are the cells of the
--- code and its end before a call, c′ after it.
+-- What the checker's inner functions promise one another. `last` is the last opcode of the table; c are the cells of
+-- the code and its end before a call, c′ after it.
 -- Assumes nothing.
 use mathlib.Core.Path.{_≡_}
 use mathlib.Core.Bool.{Bool, true, false}

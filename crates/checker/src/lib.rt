@@ -31,7 +31,8 @@ pub enum Walk {
 // Checks the code against its starts, an offset and a depth each. Where it is accepted, the first code.len() + 1 cells of `depths`
 // hold the smallest assignment, with 65,536 for none; on 23 they all hold 65,536; otherwise nothing is written.
 pub fn check(code: &[u8], starts: &[u32], depths: &mut [u32]) -> Checked
-    ensures { λ r. ⌜ Promise lastOpcode (now (code .entry)) (now (starts .entry)) (now (depths .entry)) (now (depths .exit)) r ⌝ }
+    ensures { λ r. ⌜ Promise lastOpcode (now (code .entry)) (now (starts .entry)) (now (depths .entry))
+        (now (depths .exit)) r ⌝ }
 {
     if CODE_LIMIT < code.len() {
         return Checked::Refused(Refusal::TooLarge);
@@ -70,7 +71,8 @@ fn built_sound(built: Builder, cl: usize, sl: usize) -> bool
 
 // Checks a builder's used code from its used starts: 19 where a count is unsound, then as `check`.
 pub fn check_built(built: Builder, code: &[u8], starts: &[u32], depths: &mut [u32]) -> Checked
-    ensures { λ r. ⌜ BuiltPromise built (now (code .entry)) (now (starts .entry)) (now (depths .entry)) (now (depths .exit)) r ⌝ }
+    ensures { λ r. ⌜ BuiltPromise built (now (code .entry)) (now (starts .entry)) (now (depths .entry))
+        (now (depths .exit)) r ⌝ }
 {
     if !built_sound(built, code.len(), starts.len()) {
         return Checked::Refused(Refusal::Unsound);

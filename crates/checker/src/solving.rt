@@ -35,7 +35,8 @@ fn begin(starts: &[u32], cells: &mut [u32]) -> bool
 
 // The smallest assignment and its count, or 23.
 pub fn solve(code: &[u8], starts: &[u32], cells: &mut [u32]) -> Checked
-    requires { ⌜ (length (now code) ≤ codeLimit) × (length (now cells) ≡ suc (length (now code))) × NoFault lastOpcode (now code) × Listed lastOpcode (now code) (now starts) ⌝ }
+    requires { ⌜ (length (now code) ≤ codeLimit) × (length (now cells) ≡ suc (length (now code)))
+        × NoFault lastOpcode (now code) × Listed lastOpcode (now code) (now starts) ⌝ }
     ensures { λ r. ⌜ Outcome lastOpcode (now (code .entry)) (now (starts .entry)) (now (cells .exit)) r ⌝ }
 {
     cells::fill(cells, NO_DEPTH);

@@ -13,7 +13,8 @@ use code::decoder;
 // What the instruction at an offset asks of the places it goes to. Answers 1 only where a place at or before it got a depth: what
 // lies ahead is still to come in the same sweep.
 fn relax(code: &[u8], cells: &mut [u32], at: usize) -> u8
-    requires { ⌜ (length (now code) ≤ codeLimit) × (at < length (now code)) × (length (now cells) ≡ suc (length (now code))) ⌝ }
+    requires { ⌜ (length (now code) ≤ codeLimit) × (at < length (now code))
+        × (length (now cells) ≡ suc (length (now code))) ⌝ }
     ensures { λ r. ⌜ Relaxed lastOpcode (now (code .entry)) (now (cells .entry)) (now (cells .exit)) at r ⌝ }
 {
     let d = cells[at];
@@ -34,7 +35,8 @@ fn relax(code: &[u8], cells: &mut [u32], at: usize) -> u8
 // The same of every offset in turn; what is no place has no depth.
 fn sweep(code: &[u8], cells: &mut [u32]) -> u8
     requires { ⌜ (length (now code) ≤ codeLimit) × (length (now cells) ≡ suc (length (now code))) ⌝ }
-    ensures { λ r. ⌜ Swept lastOpcode (now (code .entry)) (now (cells .entry)) (now (cells .exit)) (length (now (code .entry))) r ⌝ }
+    ensures { λ r. ⌜ Swept lastOpcode (now (code .entry)) (now (cells .entry)) (now (cells .exit))
+        (length (now (code .entry))) r ⌝ }
 {
     let mut moved: u8 = 0;
     let mut at = 0;

@@ -47,7 +47,8 @@ pub fn visit(cells: &mut [u32], o: usize, d: u32) -> u8
 
 // The cell at `o` gets the depth that a change leads to.
 fn arrive(cells: &mut [u32], o: usize, d: u32, change: Change) -> u8
-    ensures { λ r. ⌜ Arrived (now (cells .entry)) (now (cells .exit)) o d change r × Touched (now (cells .entry)) (now (cells .exit)) o r ⌝ }
+    ensures { λ r. ⌜ Arrived (now (cells .entry)) (now (cells .exit)) o d change r
+        × Touched (now (cells .entry)) (now (cells .exit)) o r ⌝ }
 {
     let t = land(d, change);
     if WORD_MAX < t {
@@ -76,7 +77,8 @@ pub fn fall(cells: &mut [u32], at: usize, d: u32, f: Flow) -> u8
 
 // `arrive` from the instruction at `at`; 0 for 1 where the cell lies ahead of it.
 fn hop(cells: &mut [u32], at: usize, o: usize, d: u32, change: Change) -> u8
-    ensures { λ r. ⌜ Arrived (now (cells .entry)) (now (cells .exit)) o d change r × (r ≡ 0 → Ahead (now (cells .entry)) (now (cells .exit)) at) ⌝ }
+    ensures { λ r. ⌜ Arrived (now (cells .entry)) (now (cells .exit)) o d change r
+        × (r ≡ 0 → Ahead (now (cells .entry)) (now (cells .exit)) at) ⌝ }
 {
     let r = arrive(cells, o, d, change);
     if r == 1 {

@@ -109,8 +109,10 @@ pub fn starts_fine(code: &[u8], starts: &[u32]) -> bool
 
 // Marks each place with 65,537.
 pub fn mark(code: &[u8], cells: &mut [u32])
-    requires { ⌜ (length (now cells) ≡ suc (length (now code))) × ((o : ℕ) → cell (now cells) o ≡ noDepth) × NoFault lastOpcode (now code) ⌝ }
-    ensures { λ _. ⌜ (length (now (cells .exit)) ≡ length (now (cells .entry))) × Marked lastOpcode (now (code .entry)) (now (cells .exit)) ⌝ }
+    requires { ⌜ (length (now cells) ≡ suc (length (now code))) × ((o : ℕ) → cell (now cells) o ≡ noDepth)
+        × NoFault lastOpcode (now code) ⌝ }
+    ensures { λ _. ⌜ (length (now (cells .exit)) ≡ length (now (cells .entry)))
+        × Marked lastOpcode (now (code .entry)) (now (cells .exit)) ⌝ }
 {
     let mut at = 0;
     loop {

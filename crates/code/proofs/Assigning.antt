@@ -1,4 +1,5 @@
--- Laws of assignments: a derived depth is in each of them, one whose depths are all derived is the smallest, and there is one smallest.
+-- Laws of assignments: a derived depth is in each of them, one whose depths are all derived is the smallest, and
+-- there is one smallest.
 -- Assumes nothing.
 use mathlib.Core.Path.{_≡_, refl, sym, ap, subst, _∙_}
 use mathlib.Core.Bool.{Bool, true, false, cond}
@@ -19,7 +20,8 @@ use Rattle.code.specs.Depths.{Stands, Leads, Assigns, Smallest, Impossib
 
 -- a change's lead, in numbers
 
-chosen : (b : Bool) (x e : ℕ) (y : After) → cond b (A.Depth x) y ≡ A.Depth e → (y ≡ A.Depth e → ⊥) → (b ≡ true) × (x ≡ e)
+chosen : (b : Bool) (x e : ℕ) (y : After) → cond b (A.Depth x) y ≡ A.Depth e → (y ≡ A.Depth e → ⊥)
+    → (b ≡ true) × (x ≡ e)
 chosen true x e y h n = (refl, cc)
 chosen false x e y h n = absurd (n h)
 

@@ -98,7 +98,8 @@ pub decode-whole : (last at k : ℕ) (t : List ℕ) (s : Shape) (o : Operand) �
     → operandIn s (k ∷ t) ≡ o
     → sizeOf s (namesIn o) ≤ length (k ∷ t) → decode last at (k ∷ t) ≡ Instr k o (sizeOf s (namesIn o))
 unfolding decode stepIn
-decode-whole last at k t s o l e eo h = rw (below-shape last k l, e, eo, le-leb (sizeOf s (namesIn o)) (length (k ∷ t)) h)
+decode-whole last at k t s o l e eo h =
+    rw (below-shape last k l, e, eo, le-leb (sizeOf s (namesIn o)) (length (k ∷ t)) h)
 
 -- what it says that they decode
 
@@ -130,7 +131,8 @@ module _ (last at k′ : ℕ) (t : List ℕ) (k : ℕ) (o : Operand) (z : ℕ) w
   by-shape (P.Refused r) ep e = absurd (no-fault e)
   by-shape (P.Is s) ep e =
       let u : List ℕ = k′ ∷ t in
-      let f = picked (leb (sizeByNames s u) (length u)) (Instr k′ (operandIn s u) (sizeByNames s u)) (Refused (CutShort at)) (Instr k o z) e no-fault in
+      let f = picked (leb (sizeByNames s u) (length u)) (Instr k′ (operandIn s u) (sizeByNames s u))
+      (Refused (CutShort at)) (Instr k o z) e no-fault in
       let i : Instr k′ (operandIn s u) (sizeByNames s u) ≡ Instr k o z = f .1 in
       let ek : k ≡ k′ = cc in
       let eo : o ≡ operandIn s u = cc in
@@ -152,7 +154,8 @@ decodes last at [] k o z d = absurd (omega (arith, d .some, d .fits))
 decodes last at (k′ ∷ t) k o z d =
     let e : shapeOf k′ ≡ P.Is (operandShape o) = ap shapeOf (sym (d .opcode)) ∙ d .shape in
     rw (d .opcode, d .size)
-    (decode-whole last at k′ t (operandShape o) o (omega (arith, d .opcode, d .known)) e (sym (d .operand)) (omega (arith, d .size, d .fits)))
+    (decode-whole last at k′ t (operandShape o) o (omega (arith, d .opcode, d .known)) e (sym (d .operand))
+    (omega (arith, d .size, d .fits)))
 
 -- the offset names a fault's place, and nothing else goes by it
 pub decode-anywhere : (last at at′ : ℕ) (u : List ℕ) (k : ℕ) (o : Operand) (z : ℕ) → decode last at u ≡ Instr k o z
@@ -180,7 +183,8 @@ decode-under last last′ at u k o z e l =
 pub decode-longer : (last last′ at : ℕ) (u : List ℕ) (k : ℕ) (o : Operand) (z : ℕ) → last ≤ last′
     → decode last at u ≡ Instr k o z
     → decode last′ at u ≡ Instr k o z
-decode-longer last last′ at u k o z l e = decode-under last last′ at u k o z e (omega (arith, decoded last at u k o z e .known))
+decode-longer last last′ at u k o z l e =
+    decode-under last last′ at u k o z e (omega (arith, decoded last at u k o z e .known))
 
 -- at or past the end, and only there, stands End
 pub decode-past : (last at : ℕ) (s : List ℕ) → length s ≤ at → decode last at (drop at s) ≡ End
@@ -220,7 +224,8 @@ same-names false k o z r r′ u = refl
 names-by-shape : (at : ℕ) (u : List ℕ) (p : Shaped) → namesBy (whole 0 p u) u ≡ namesBy (whole at p u) u
 unfolding stepIn
 names-by-shape at u (P.Refused r) = refl
-names-by-shape at u (P.Is s) = same-names (leb (sizeByNames s u) (length u)) (getD u 0 0) (operandIn s u) (sizeByNames s u) (CutShort 0) (CutShort at) u
+names-by-shape at u (P.Is s) = same-names (leb (sizeByNames s u) (length u)) (getD u 0 0) (operandIn s u)
+    (sizeByNames s u) (CutShort 0) (CutShort at) u
 
 pub names-anywhere : (last at : ℕ) (u : List ℕ) → namesAt last u ≡ namesBy (decode last at u) u
 unfolding namesAt decode

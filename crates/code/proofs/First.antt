@@ -1,4 +1,5 @@
--- What `first` answers: the first row below n that passes a test, described, and that only one row fits the description.
+-- What `first` answers: the first row below n that passes a test, described, and that only one row fits the
+-- description.
 -- Assumes nothing.
 use Prim.Native.Nat.{ℕ, zero, suc, _+_, _≤_, _<_}
 use borrow.Author.Count.{below-none, below-more}
@@ -14,7 +15,8 @@ pub record IsFirst (test : ℕ → Bool) (n i : ℕ) : Type 0 where
   pub hit : i < n → test i ≡ true
 
 -- what fails at 0 and at each number shifted by one fails below
-shifted : (test : ℕ → Bool) (i : ℕ) → test zero ≡ false → ((k : ℕ) → k < i → test (suc k) ≡ false) → (k : ℕ) → k < suc i → test k ≡ false
+shifted : (test : ℕ → Bool) (i : ℕ) → test zero ≡ false → ((k : ℕ) → k < i → test (suc k) ≡ false) → (k : ℕ)
+    → k < suc i → test k ≡ false
 shifted test i none rest zero lt = none
 shifted test i none rest (suc k) lt = rest k (omega arith)
 

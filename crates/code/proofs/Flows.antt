@@ -39,7 +39,8 @@ use Rattle.code.proofs.Decoding.{decoded, decoded-ends}
 -- goals, by the word that stands for the displacement
 
 module _ (next end : ℕ) where
-  forth : (z : ℤ) → mag z < 32768 → unsigned 65536 z < 32768 → cond (leb (next + unsigned 65536 z) end) (To (next + unsigned 65536 z)) Outside ≡ goalBy next end z
+  forth : (z : ℤ) → mag z < 32768 → unsigned 65536 z < 32768
+      → cond (leb (next + unsigned 65536 z) end) (To (next + unsigned 65536 z)) Outside ≡ goalBy next end z
   unfolding goalBy
   forth (pos n) h l = refl
   forth (negsuc n) h l = absurd (omega arith)
@@ -52,13 +53,15 @@ module _ (next end : ℕ) where
 
   module _ (z : ℤ) (h : mag z < 32768) (w : ℕ) (ew : w ≡ unsigned 65536 z) (in-code : next ≤ end) where
     pub goal-forth : w < 32768 → w ≤ end - next → To (next + w) ≡ goalBy next end z
-    goal-forth l r = rw (le-leb (next + unsigned 65536 z) end (omega (arith, ew)), ← ew) at (forth z h (omega (arith, ew)))
+    goal-forth l r = rw (le-leb (next + unsigned 65536 z) end (omega (arith, ew)), ← ew) at
+        (forth z h (omega (arith, ew)))
 
     pub goal-over : w < 32768 → end - next < w → Outside ≡ goalBy next end z
     goal-over l r = rw (lt-leb (next + unsigned 65536 z) end (omega (arith, ew))) at (forth z h (omega (arith, ew)))
 
     pub goal-back : 32768 ≤ w → 65536 - w ≤ next → To (next - (65536 - w)) ≡ goalBy next end z
-    goal-back l r = rw (le-leb (65536 - unsigned 65536 z) next (omega (arith, ew)), ← ew) at (back z h (omega (arith, ew)))
+    goal-back l r = rw (le-leb (65536 - unsigned 65536 z) next (omega (arith, ew)), ← ew) at
+        (back z h (omega (arith, ew)))
 
     pub goal-under : 32768 ≤ w → next < 65536 - w → Outside ≡ goalBy next end z
     goal-under l r = rw (lt-leb (65536 - unsigned 65536 z) next (omega (arith, ew))) at (back z h (omega (arith, ew)))
@@ -81,7 +84,8 @@ module _ (next end : ℕ) where
 -- flows
 
 -- a jump has 3 bytes
-goal-next : (at z end : ℕ) (o : Operand) → z ≡ sizeOf (operandShape o) (namesIn o) → goalOf (at + z) end o ≡ goalOf (at + 3) end o
+goal-next : (at z end : ℕ) (o : Operand) → z ≡ sizeOf (operandShape o) (namesIn o)
+    → goalOf (at + z) end o ≡ goalOf (at + 3) end o
 unfolding sizeOf
 goal-next at z end O.None e = refl
 goal-next at z end (O.U8 a) e = refl
@@ -206,7 +210,8 @@ agreed false false t = refl
 
 jump-row : (k : ℕ) → k < length table → eqb (shapeNumber (shapeIn (rowOf k))) 4 ≡ isBy (takenOf k)
 unfolding rowOf table takenOf known agree
-jump-row k h = agreed _ _ (in-range (λ (i : ℕ). agree (eqb (shapeNumber (shapeIn (rowOf i))) 4) (isBy (takenOf i))) 0 (length table) k (omega arith) (omega arith) tt)
+jump-row k h = agreed _ _ (in-range (λ (i : ℕ). agree (eqb (shapeNumber (shapeIn (rowOf i))) 4) (isBy (takenOf i))) 0
+    (length table) k (omega arith) (omega arith) tt)
 
 pub jumps-by-shape : (k : ℕ) (s : Shape) → shapeOf k ≡ P.Is s → isBy (takenOf k) ≡ eqb (shapeNumber s) 4
 jumps-by-shape k s e =

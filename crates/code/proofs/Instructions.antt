@@ -1,5 +1,5 @@
--- Laws of the one reading: how it goes on by a step, and an induction along it. Who tells something of what is read uses
--- these and not the definition's text.
+-- Laws of the one reading: how it goes on by a step, and an induction along it. Who tells something of what is read
+-- uses these and not the definition's text.
 -- Assumes nothing.
 use mathlib.Core.Path.{_≡_, refl, sym, ap, subst, _∙_}
 use mathlib.Core.List.{List, [], _∷_}
@@ -77,7 +77,8 @@ module _ (last : ℕ) (s : List ℕ) where
       → M at (before (spotAt last at (drop at s) k o z) (readFrom (at + z))))
       (over : (at : ℕ) → decode last at (drop at s) ≡ End → M at (stopsAt at none))
       (fault : (at : ℕ) (r : Refusal) → decode last at (drop at s) ≡ Refused r → M at (stopsAt at (some r))) where
-    by-step : (at : ℕ) → ((z : ℕ) → 0 < z → M (at + z) (readFrom (at + z))) → (t : Step) → decode last at (drop at s) ≡ t
+    by-step : (at : ℕ) → ((z : ℕ) → 0 < z → M (at + z) (readFrom (at + z))) → (t : Step)
+        → decode last at (drop at s) ≡ t
         → M at (readFrom at)
     by-step at later (Instr k o z) e =
         subst (M at) (sym (reads-on at k o z e)) (on at k o z e (later z (decoded-ends last at s k o z e .0)))

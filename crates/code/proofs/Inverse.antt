@@ -51,7 +51,8 @@ pub length-encode : (k : ℕ) (o : Operand) (names : List ℕ) → namesIn o ≡
     → length (encode k o names) ≡ sizeOf (operandShape o) (length names)
 unfolding encode
 length-encode k o names e =
-    let s : sizeOf (operandShape o) (length names) ≡ sizeOf (operandShape o) 0 + 2 * namesIn o = ap (sizeOf (operandShape o)) (sym e) ∙ size-by-names o in
+    let s : sizeOf (operandShape o) (length names) ≡ sizeOf (operandShape o) 0 + 2 * namesIn o =
+    ap (sizeOf (operandShape o)) (sym e) ∙ size-by-names o in
     omega (arith, length-append (operandBytes o) (namesBytes names), length-names names, length-operand o, s)
 
 -- names
@@ -62,7 +63,8 @@ words-names (n ∷ ns) =
     let e : n % 256 + 256 * (n / 256) ≡ n = omega arith in
     cc (words-names ns)
 
-pub names-words : (n : ℕ) (xs : List ℕ) → length xs ≡ 2 * n → ((i : ℕ) → getD xs i 0 < 256) → namesBytes (wordsIn xs) ≡ xs
+pub names-words : (n : ℕ) (xs : List ℕ) → length xs ≡ 2 * n → ((i : ℕ) → getD xs i 0 < 256)
+    → namesBytes (wordsIn xs) ≡ xs
 names-words n [] e h = refl
 names-words zero (a ∷ xs) e h = absurd (omega arith)
 names-words (suc n) (a ∷ []) e h = absurd (omega arith)
@@ -76,7 +78,8 @@ names-words (suc n) (a ∷ (b ∷ xs)) e h =
 word : (a : ℕ) → a % 256 + 256 * (a / 256) ≡ a
 word a = omega arith
 
-pub read-back : (k : ℕ) (o : Operand) (t : List ℕ) → SignsFit o → operandIn (operandShape o) (k ∷ (operandBytes o ++ t)) ≡ o
+pub read-back : (k : ℕ) (o : Operand) (t : List ℕ) → SignsFit o
+    → operandIn (operandShape o) (k ∷ (operandBytes o ++ t)) ≡ o
 unfolding operandIn
 read-back k O.None t r = refl
 read-back k (O.U8 a) t r = refl
@@ -98,20 +101,27 @@ module _ (last k : ℕ) (o : Operand) (names rest : List ℕ) (l : k ≤ last) (
   decode-encode at =
       let s = operandShape o in
       let t : List ℕ = (operandBytes o ++ namesBytes names) ++ rest in
-      let a : t ≡ operandBytes o ++ (namesBytes names ++ rest) = append-assoc (operandBytes o) (namesBytes names) rest in
-      let b : operandIn s (k ∷ t) ≡ o = ap (λ (x : List ℕ). operandIn s (k ∷ x)) a ∙ read-back k o (namesBytes names ++ rest) (f .signs) in
-      let z : sizeOf s (namesIn o) ≡ length (encode k o names) = ap (sizeOf s) (f .count) ∙ sym (length-encode k o names (f .count)) in
-      decode-whole last at k t s o l (f .shape) b (omega (arith, z, length-append (encode k o names) rest)) ∙ ap (Instr k o) z
+      let a : t ≡ operandBytes o ++ (namesBytes names ++ rest) =
+      append-assoc (operandBytes o) (namesBytes names) rest in
+      let b : operandIn s (k ∷ t) ≡ o =
+      ap (λ (x : List ℕ). operandIn s (k ∷ x)) a ∙ read-back k o (namesBytes names ++ rest) (f .signs) in
+      let z : sizeOf s (namesIn o) ≡ length (encode k o names) =
+      ap (sizeOf s) (f .count) ∙ sym (length-encode k o names (f .count)) in
+      decode-whole last at k t s o l (f .shape) b (omega (arith, z, length-append (encode k o names) rest))
+      ∙ ap (Instr k o) z
 
   pub names-encode : namesAt last (encode k o names ++ rest) ≡ namesBytes names
   unfolding encode
   names-encode =
       let p : List ℕ = k ∷ operandBytes o in
       let u : List ℕ = p ++ (namesBytes names ++ rest) in
-      let a : encode k o names ++ rest ≡ u = ap (λ (x : List ℕ). k ∷ x) (append-assoc (operandBytes o) (namesBytes names) rest) in
+      let a : encode k o names ++ rest ≡ u =
+      ap (λ (x : List ℕ). k ∷ x) (append-assoc (operandBytes o) (namesBytes names) rest) in
       let b : length (namesBytes names) ≡ 2 * namesIn o = omega (arith, length-names names, f .count) in
-      names-part last (encode k o names ++ rest) k o (length (encode k o names)) (decoded last 0 (encode k o names ++ rest) k o (length (encode k o names)) (decode-encode 0))
-      ∙ rw (a, drop-at p (namesBytes names ++ rest) (sizeOf (operandShape o) 0) (length-operand o)) (take-at (namesBytes names) rest (2 * namesIn o) b)
+      names-part last (encode k o names ++ rest) k o (length (encode k o names))
+      (decoded last 0 (encode k o names ++ rest) k o (length (encode k o names)) (decode-encode 0))
+      ∙ rw (a, drop-at p (namesBytes names ++ rest) (sizeOf (operandShape o) 0) (length-operand o))
+      (take-at (namesBytes names) rest (2 * namesIn o) b)
 
 -- what decodes is written back
 
@@ -127,7 +137,8 @@ reads-cons (suc n) i a u = ap (λ (t : List ℕ). getD u i 0 ∷ t) (reads-cons 
 take-reads : (n : ℕ) (u : List ℕ) → n ≤ length u → take n u ≡ reads n 0 u
 take-reads zero u h = refl
 take-reads (suc n) [] h = absurd (not-suc-le-zero h)
-take-reads (suc n) (a ∷ u) h = ap (λ (t : List ℕ). a ∷ t) (take-reads n u (le-of-suc-le-suc h) ∙ sym (reads-cons n 0 a u))
+take-reads (suc n) (a ∷ u) h =
+    ap (λ (t : List ℕ). a ∷ t) (take-reads n u (le-of-suc-le-suc h) ∙ sym (reads-cons n 0 a u))
 
 module _ (u : List ℕ) (bytes : (i : ℕ) → getD u i 0 < 256) where
   low : (i : ℕ) → wordAt u i % 256 ≡ getD u i 0
@@ -164,10 +175,14 @@ module _ (u : List ℕ) (bytes : (i : ℕ) → getD u i 0 < 256) where
         let b = sizeOf (operandShape o) 0 in
         let n = namesIn o in
         let x : List ℕ = take (2 * n) (drop b u) in
-        let l : length x ≡ 2 * n = length-take-le (2 * n) (drop b u) (rw length-drop (omega (arith, d .base, d .fits))) in
-        let small : ((i : ℕ) → getD x i 0 < 256) = take-below (2 * n) (drop b u) (λ (i : ℕ). rw getD-drop (bytes (b + i))) in
-        let e : namesBytes (wordsIn (namesAt last u)) ≡ x = ap (λ (y : List ℕ). namesBytes (wordsIn y)) (names-part last u k o z d) ∙ names-words n x l small in
-        ap (λ (y : List ℕ). k ∷ (operandBytes o ++ y)) e ∙ ap (λ (y : List ℕ). y ++ x) fixed ∙ sym (take-add b (2 * n) u) ∙ ap (λ (i : ℕ). take i u) (sym (d .base))
+        let l : length x ≡ 2 * n =
+        length-take-le (2 * n) (drop b u) (rw length-drop (omega (arith, d .base, d .fits))) in
+        let small : ((i : ℕ) → getD x i 0 < 256) =
+        take-below (2 * n) (drop b u) (λ (i : ℕ). rw getD-drop (bytes (b + i))) in
+        let e : namesBytes (wordsIn (namesAt last u)) ≡ x =
+        ap (λ (y : List ℕ). namesBytes (wordsIn y)) (names-part last u k o z d) ∙ names-words n x l small in
+        ap (λ (y : List ℕ). k ∷ (operandBytes o ++ y)) e ∙ ap (λ (y : List ℕ). y ++ x) fixed
+        ∙ sym (take-add b (2 * n) u) ∙ ap (λ (i : ℕ). take i u) (sym (d .base))
 
 -- a well formed instruction's bytes are read as it, under each table that has its opcode, whatever follows
 pub reads-encoded : (last at : ℕ) (i : Instruction) (rest : List ℕ) → i .opcode ≤ last

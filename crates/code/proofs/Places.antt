@@ -1,7 +1,9 @@
--- Laws of instruction starts: they are in the code, none lies inside an instruction, and reading meets one fault at most.
+-- Laws of instruction starts: they are in the code, none lies inside an instruction, and reading meets one fault at
+-- most.
 -- Assumes nothing.
 use mathlib.Core.Path.{_≡_, refl, sym, ap, subst, _∙_}
-use mathlib.Core.List.{List, List·Memᴰ as Mem, List·Memᴰ·head as mhead, List·Memᴰ·tail as mtail, List·Memᴰ·cases-cons, List·Memᴰ·eq-of-singleton}
+use mathlib.Core.List.{List, List·Memᴰ as Mem, List·Memᴰ·head as mhead, List·Memᴰ·tail as mtail, List·Memᴰ·cases-cons}
+use mathlib.Core.List.{List·Memᴰ·eq-of-singleton}
 use mathlib.Core.Logic.{_⊎_, ⊎-elim, inl, inr}
 use mathlib.Core.Option.{none}
 use Prim.Native.Nat.{ℕ, _+_, _≤_, _<_}
@@ -35,7 +37,8 @@ stands-one {last} {s} {o} {f} {g} e h =
     cc
 
 -- what stands under a table stands under a longer one
-pub stands-longer : {last last′ : ℕ} {s : List ℕ} {o : ℕ} {f : Flow} → last ≤ last′ → Stands last s o f → Stands last′ s o f
+pub stands-longer : {last last′ : ℕ} {s : List ℕ} {o : ℕ} {f : Flow} → last ≤ last′ → Stands last s o f
+    → Stands last′ s o f
 unfolding flowOf
 stands-longer {last} {last′} {s} {o} {f} l e =
     let u = drop o s in
@@ -96,7 +99,8 @@ module _ (last : ℕ) (s : List ℕ) where
   -- the first is that offset
   come-here : (at : ℕ) → Comes at (readFrom last s at)
   come-here =
-      read-ind last s (λ at read. Comes at read) (λ at k o z e h. mhead refl) (λ at e. mhead refl) (λ at r e. mhead refl)
+      read-ind last s (λ at read. Comes at read) (λ at k o z e h. mhead refl) (λ at e. mhead refl)
+      (λ at r e. mhead refl)
 
   -- no other is less
   come-past : (at o : ℕ) → Comes o (readFrom last s at) → at ≤ o
@@ -108,7 +112,8 @@ module _ (last : ℕ) (s : List ℕ) where
   -- behind an instruction comes the next
   come-next : (at o : ℕ) (f : Flow) → Comes o (readFrom last s at) → Stands last s o f
       → Comes (o + f .size) (readFrom last s at)
-  come-next = read-ind last s (λ at read. (o : ℕ) (f : Flow) → Comes o read → Stands last s o f → Comes (o + f .size) read)
+  come-next = read-ind last s (λ at read. (o : ℕ) (f : Flow) → Comes o read → Stands last s o f
+      → Comes (o + f .size) read)
       (λ at k o z e h q f m w. ⊎-elim
       (λ i. (let j : q + f .size ≡ at + z = omega (arith, same-size k o z f e (moved i w)) in
       mtail (subst (λ (x : ℕ). Comes x (readFrom last s (at + z))) (sym j) (come-here (at + z)))))
@@ -120,15 +125,18 @@ module _ (last : ℕ) (s : List ℕ) where
   come-gap : (at o q : ℕ) → Comes o (readFrom last s at) → Comes q (readFrom last s at) → o < q
       → (f : Flow) × (Stands last s o f × (o + f .size ≤ q))
   come-gap = read-ind last s
-      (λ at read. (o q : ℕ) → Comes o read → Comes q read → o < q → (f : Flow) × (Stands last s o f × (o + f .size ≤ q)))
+      (λ at read. (o q : ℕ) → Comes o read → Comes q read → o < q
+      → (f : Flow) × (Stands last s o f × (o + f .size ≤ q)))
       (λ at k i z e h o q m n l. ⊎-elim
       (λ a. ⊎-elim (λ b. absurd (omega arith)) (λ b.
       let g = stands-here k i z e in
       (g .0, (moved (sym a) (g .1 .0), omega (arith, g .1 .1, come-past (at + z) q b)))) (List·Memᴰ·cases-cons n))
       (λ a. ⊎-elim (λ b. absurd (omega (arith, come-past (at + z) o a))) (λ b. h o q a b l) (List·Memᴰ·cases-cons n))
       (List·Memᴰ·cases-cons m))
-      (λ at e o q m n l. absurd (let a = List·Memᴰ·eq-of-singleton m in let b = List·Memᴰ·eq-of-singleton n in omega arith))
-      (λ at r e o q m n l. absurd (let a = List·Memᴰ·eq-of-singleton m in let b = List·Memᴰ·eq-of-singleton n in omega arith))
+      (λ at e o q m n l. absurd (let a = List·Memᴰ·eq-of-singleton m in let b = List·Memᴰ·eq-of-singleton n in
+      omega arith))
+      (λ at r e o q m n l. absurd (let a = List·Memᴰ·eq-of-singleton m in let b = List·Memᴰ·eq-of-singleton n in
+      omega arith))
 
   -- reading from each of them on meets the same
   come-fault : (at o : ℕ) → Comes o (readFrom last s at) → readFrom last s at .fault ≡ readFrom last s o .fault
@@ -137,7 +145,8 @@ module _ (last : ℕ) (s : List ℕ) where
       (λ at e q m. here at _ (reads-end last s at e) q (List·Memᴰ·eq-of-singleton m))
       (λ at r e q m. here at _ (reads-fault last s at r e) q (List·Memᴰ·eq-of-singleton m))
     where
-      here : (at : ℕ) (read : Read) → readFrom last s at ≡ read → (q : ℕ) → q ≡ at → read .fault ≡ readFrom last s q .fault
+      here : (at : ℕ) (read : Read) → readFrom last s at ≡ read → (q : ℕ) → q ≡ at
+          → read .fault ≡ readFrom last s q .fault
       here at read e q i = sym (ap (λ (r : Read). r .fault) (ap (readFrom last s) i ∙ e))
 
 module _ {last : ℕ} {s : List ℕ} where

@@ -38,7 +38,8 @@ take-put a xs l h = rw append-assoc (take-at (take a l) (xs ++ drop (a + length 
 pub take-put-all : (a : ℕ) (xs l : List ℕ) → a ≤ length l → take (a + length xs) (put a xs l) ≡ take a l ++ xs
 unfolding put
 take-put-all a xs l h =
-    take-at (take a l ++ xs) (drop (a + length xs) l) (a + length xs) (length-append (take a l) xs ∙ ap (λ (n : ℕ). n + length xs) (length-take-le a l h))
+    take-at (take a l ++ xs) (drop (a + length xs) l) (a + length xs)
+    (length-append (take a l) xs ∙ ap (λ (n : ℕ). n + length xs) (length-take-le a l h))
 
 -- nothing grows or shrinks
 pub length-put : (a : ℕ) (xs l : List ℕ) → a + length xs ≤ length l → length (put a xs l) ≡ length l

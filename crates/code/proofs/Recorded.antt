@@ -1,5 +1,5 @@
--- A location that is recorded is found: a pushed row is read back as it was, the rows before it stay, and the lookup of its
--- offset answers it.
+-- A location that is recorded is found: a pushed row is read back as it was, the rows before it stay, and the lookup
+-- of its offset answers it.
 -- Assumes nothing.
 use Prim.Native.Nat.{ℕ, suc, _+_, _*_, _/_, _≤_, _<_}
 use native.Mathlib.Omega.{arith}
@@ -51,11 +51,13 @@ module _ (before : List ℕ) (rows : ℕ) (row : LocationRow) (whole : length be
       List·getD-append before (locationNumbers row) 0 (i * locationCells + k) (omega arith)
 
   -- where no offset is greater, the lookup of its offset answers the last
-  module _ (small : row .offset ≤ largestU32) (sorted : (i : ℕ) → i < rows → locationRow before i .offset ≤ row .offset) where
+  module _ (small : row .offset ≤ largestU32)
+      (sorted : (i : ℕ) → i < rows → locationRow before i .offset ≤ row .offset) where
     passes : (k : ℕ) → k < rows + 1 → greater more (row .offset) k ≡ false
     passes =
         below-more (λ k. greater more (row .offset) k ≡ false) rows
-        (λ k lt. le-ltb (row .offset) (locationRow more k .offset) (omega (arith, cell-earlier k 0 lt (omega arith), sorted k lt)))
+        (λ k lt. le-ltb (row .offset) (locationRow more k .offset)
+        (omega (arith, cell-earlier k 0 lt (omega arith), sorted k lt)))
         (le-ltb (row .offset) (locationRow more rows .offset) (omega (arith, cell-last 0)))
 
     greater-last : firstGreater more (row .offset) ≡ suc rows
@@ -75,7 +77,8 @@ module _ (before : List ℕ) (rows : ℕ) (row : LocationRow) (whole : length be
 
 -- a pushed row
 
-module _ (locations : List ℕ) (rows : ℕ) (row : LocationRow) (free : rows * locationCells + locationCells ≤ length locations) where
+module _ (locations : List ℕ) (rows : ℕ) (row : LocationRow)
+    (free : rows * locationCells + locationCells ≤ length locations) where
   abbrev before : List ℕ
   before = take (rows * locationCells) locations
 
@@ -100,4 +103,5 @@ recorded-is-found locations rows row has small sorted =
     let u = before locations rows row free in
     rw (used-pushed locations rows row free)
     (found-last u rows row (whole locations rows row free) small
-    (λ i lt. subst (λ (n : ℕ). n ≤ row .offset) (sym (getD-take (rows * locationCells) locations (i * locationCells + 0) 0 (omega arith))) (sorted i lt)))
+    (λ i lt. subst (λ (n : ℕ). n ≤ row .offset)
+    (sym (getD-take (rows * locationCells) locations (i * locationCells + 0) 0 (omega arith))) (sorted i lt)))

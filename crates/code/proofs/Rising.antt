@@ -1,5 +1,5 @@
--- On offsets in rising order the location lookup answers the last row whose offset is not greater, as the Rust's binary search
--- does: equality with the Rust (R58) is over offsets in rising order.
+-- On offsets in rising order the location lookup answers the last row whose offset is not greater, as the Rust's
+-- binary search does: equality with the Rust (R58) is over offsets in rising order.
 -- Assumes nothing.
 use Prim.Native.Nat.{ℕ, zero, suc, _≤_, _<_}
 use native.Mathlib.Omega.{arith}
@@ -42,11 +42,16 @@ module _ (cells : List ℕ) (x : ℕ) (rising : Rising cells) where
       inside = omega arith;
       atMost = ltb-false x (offsetOf cells i) (d .below i (omega arith));
       later = λ j lt in-table.
-          omega (arith, ltb-true x (offsetOf cells (suc i)) (d .hit (omega arith)), rising (suc i) j (omega arith) in-table);
+          omega (
+            arith,
+            ltb-true x (offsetOf cells (suc i)) (d .hit (omega arith)),
+            rising (suc i) j (omega arith) in-table,
+          );
     },
   )
 
   pub location-rising : x ≤ largestU32 → AnswersLast cells x (locationOf cells x)
   unfolding locationOf firstGreater
   location-rising small =
-      rw (le-ltb largestU32 x small) (before-first (firstGreater cells x) (is-first (greater cells x) (locationCount cells)))
+      rw (le-ltb largestU32 x small)
+      (before-first (firstGreater cells x) (is-first (greater cells x) (locationCount cells)))

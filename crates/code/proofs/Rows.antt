@@ -20,9 +20,11 @@ pub cell-inside : (w : ℕ) (cells : List ℕ) (i k : ℕ) → i < rowCount w ce
 cell-inside w cells i k lt kw = omega (arith, row-inside w cells i (omega arith) lt)
 
 -- one row more in front
-pub count-next : (w : ℕ) (front rest : List ℕ) → 0 < w → length front ≡ w → rowCount w (front ++ rest) ≡ suc (rowCount w rest)
+pub count-next : (w : ℕ) (front rest : List ℕ) → 0 < w → length front ≡ w
+    → rowCount w (front ++ rest) ≡ suc (rowCount w rest)
 count-next w front rest pos e = rw (length-append, e, add-div-left (length rest) pos) (add-one _)
 
-pub cell-next : (w : ℕ) (front rest : List ℕ) (i k : ℕ) → length front ≡ w → cell w (front ++ rest) (suc i) k ≡ cell w rest i k
+pub cell-next : (w : ℕ) (front rest : List ℕ) (i k : ℕ) → length front ≡ w
+    → cell w (front ++ rest) (suc i) k ≡ cell w rest i k
 cell-next w front rest i k e =
     ap (λ (n : ℕ). getD (front ++ rest) n 0) (omega (arith, suc-mul i w)) ∙ getD-append-add front rest (i * w + k) 0

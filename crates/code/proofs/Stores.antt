@@ -8,7 +8,8 @@ use native.Mathlib.Nat.{zero-add, le-refl}
 use native.Mathlib.Omega.{arith}
 use borrow.Rule.Slice.PartMut.{putMid}
 use lib.ListN.{length, take, drop, getD, set, length-append, length-drop, drop-of-length-le}
-use lib.Seq.{sets, sets-eq, take-append-seam, drop-append-seam, drop-append-add, drop-drop, take-all, take-suc, length-take-le}
+use lib.Seq.{sets, sets-eq, take-append-seam, drop-append-seam, drop-append-add, drop-drop, take-all, take-suc}
+use lib.Seq.{length-take-le}
 use Rattle.code.specs.Bytes.{front, namesBytes}
 use Rattle.code.proofs.Inverse.{length-names}
 
@@ -32,10 +33,15 @@ module _ (a : ℕ) (xs l : List ℕ) (h : a + length xs ≤ length l) where
   tail = take-all (length l - a) (drop a l) (rw length-drop (le-refl (length l - a)))
 
   pub lent : putMid a (length l - a) l (front xs (take (length l - a) (drop a l))) ≡ take a l ++ front xs (drop a l)
-  lent = rw (tail, drop-of-length-le (drop a l) {i = length l - a} (rw length-drop (le-refl (length l - a))), append-nil)
+  lent = rw (
+    tail,
+    drop-of-length-le (drop a l) {i = length l - a} (rw length-drop (le-refl (length l - a))),
+    append-nil,
+  )
 
 -- where p stands at the front already
-pub lent-behind : (p xs l : List ℕ) → take (length p) (front p l) ++ front xs (drop (length p) (front p l)) ≡ front (p ++ xs) l
+pub lent-behind : (p xs l : List ℕ) → take (length p) (front p l) ++ front xs (drop (length p) (front p l))
+    ≡ front (p ++ xs) l
 lent-behind p xs l = simp (take-append-seam, drop-append-seam, drop-drop, length-append, append-assoc)
 
 pub names-append : (ns ms : List ℕ) → namesBytes (ns ++ ms) ≡ namesBytes ns ++ namesBytes ms

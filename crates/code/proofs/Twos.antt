@@ -37,15 +37,18 @@ module _ (w : Width) (m : ℕ) (em : m ≡ 2 ^ bits w) (eh : m / 2 ≡ 2 ^ hbits
   -- reading what was written
   pub signed-unsigned : (z : ℤ) → mag z < m / 2 → signed m (unsigned m z) ≡ z
   signed-unsigned z h =
-      signed-toZ (unsigned m z) (unsigned-small z h) ∙ ap (toZ w) (unsigned-ofZ z) ∙ toZ-ofZ {w = w} (record { sfits = rw eh at h })
+      signed-toZ (unsigned m z) (unsigned-small z h) ∙ ap (toZ w) (unsigned-ofZ z)
+      ∙ toZ-ofZ {w = w} (record { sfits = rw eh at h })
 
   -- writing what was read
   pub unsigned-signed : (b : ℕ) → b < m → unsigned m (signed m b) ≡ b
-  unsigned-signed b h = ap (unsigned m) (signed-toZ b h) ∙ unsigned-ofZ (toZ w b) ∙ ofZ-toZ {w = w} (record { fits = rw em at h })
+  unsigned-signed b h =
+      ap (unsigned m) (signed-toZ b h) ∙ unsigned-ofZ (toZ w b) ∙ ofZ-toZ {w = w} (record { fits = rw em at h })
 
   -- the code's way from a number below 0 to its bits: `!x` is not below 0
   module _ (top : ℕ) (et : suc top ≡ m) where
-    pub flipped : (z : ℤ) → SFits w z → ltZ (toZ w (ofZ w z)) (pos 0) ≡ true → toZ w (top - ofZ w z) ≡ pos (top - unsigned m z)
+    pub flipped : (z : ℤ) → SFits w z → ltZ (toZ w (ofZ w z)) (pos 0) ≡ true
+        → toZ w (top - ofZ w z) ≡ pos (top - unsigned m z)
     flipped (pos n) f e =
         let h : n < 0 = ltb-true n 0 (rw (toZ-ofZ {w = w} f) at e) in
         absurd (omega arith)

@@ -23,7 +23,8 @@ use Rattle.code.specs.declared.Written.{Written}
 use Rattle.code.specs.declared.Written.the-variants.{Size, Refused}
 use Rattle.code.specs.Bytes.{namesBytes, front}
 use Rattle.code.specs.Decode.{namesIn, decode}
-use Rattle.code.specs.Encode.{operandBytes, encode, writtenIf, writtenBy, writtenOf, filled, Writes, SignsFit, Formed}
+use Rattle.code.specs.Encode.{operandBytes, encode, writtenIf, writtenBy, writtenOf, filled, Writes, SignsFit}
+use Rattle.code.specs.Encode.{Formed}
 use Rattle.code.specs.Inner.{Writable}
 use Rattle.code.proofs.Inverse.{length-encode, decode-encode}
 
@@ -67,18 +68,36 @@ module _ (k : ℕ) (o : Operand) (n room : ℕ) where
       module _ (same : shapeNumber s ≡ shapeNumber (operandShape o)) where
         pub written-count : (namesIn o ≡ n → ⊥) → Refused WrongShape ≡ writtenOf k o n room
         unfolding writtenOf
-        written-count h = rw (is, le-leb n 255 few, eq-eqb (shapeNumber s) (shapeNumber (operandShape o)) same, ne-eqb (namesIn o) n h)
+        written-count h = rw (
+          is,
+          le-leb n 255 few,
+          eq-eqb (shapeNumber s) (shapeNumber (operandShape o)) same,
+          ne-eqb (namesIn o) n h,
+        )
 
         module _ (count : namesIn o ≡ n) (z : ℕ) (ez : z ≡ sizeOf s n) where
           pub written-full : room < z → Refused (Full Code) ≡ writtenOf k o n room
           unfolding writtenOf
           written-full h =
-              rw (is, le-leb n 255 few, eq-eqb (shapeNumber s) (shapeNumber (operandShape o)) same, eq-eqb (namesIn o) n count, lt-leb (sizeOf s n) room (omega (arith, ez)))
+              rw (
+                is,
+                le-leb n 255 few,
+                eq-eqb (shapeNumber s) (shapeNumber (operandShape o)) same,
+                eq-eqb (namesIn o) n count,
+                lt-leb (sizeOf s n) room (omega (arith, ez)),
+              )
 
           pub written-size : z ≤ room → Size z ≡ writtenOf k o n room
           unfolding writtenOf
           written-size h =
-              rw (is, le-leb n 255 few, eq-eqb (shapeNumber s) (shapeNumber (operandShape o)) same, eq-eqb (namesIn o) n count, le-leb (sizeOf s n) room (omega (arith, ez)), ez)
+              rw (
+                is,
+                le-leb n 255 few,
+                eq-eqb (shapeNumber s) (shapeNumber (operandShape o)) same,
+                eq-eqb (namesIn o) n count,
+                le-leb (sizeOf s n) room (omega (arith, ez)),
+                ez,
+              )
 
 -- what `writtenOf k o n room ≡ Size z` says
 pub record Goes (k : ℕ) (o : Operand) (n room z : ℕ) : Type 0 where
@@ -92,7 +111,8 @@ passed : (t : Bool) (r : Refusal) (w : Written) (z : ℕ) → writtenIf t r w �
 passed true r w z e = (refl, e)
 passed false r w z e = (cc, cc)
 
-goes-by : (k : ℕ) (o : Operand) (n room z : ℕ) (p : Shaped) → shapeOf k ≡ p → writtenBy p o n room ≡ Size z → Goes k o n room z
+goes-by : (k : ℕ) (o : Operand) (n room z : ℕ) (p : Shaped) → shapeOf k ≡ p → writtenBy p o n room ≡ Size z
+    → Goes k o n room z
 goes-by k o n room z (P.Refused r) ep e = clash cc
 goes-by k o n room z (P.Is s) ep e =
     let w4 : Written = Size (sizeOf s n) in
@@ -103,7 +123,8 @@ goes-by k o n room z (P.Is s) ep e =
     let e2 = passed (eqb (shapeNumber s) (shapeNumber (operandShape o))) WrongShape w2 z (e1 .1) in
     let e3 = passed (eqb (namesIn o) n) WrongShape w3 z (e2 .1) in
     let e4 = passed (leb (sizeOf s n) room) (Full Code) w4 z (e3 .1) in
-    let es : s ≡ operandShape o = same-shape s (operandShape o) (eqb-true (shapeNumber s) (shapeNumber (operandShape o)) (e2 .0)) in
+    let es : s ≡ operandShape o =
+    same-shape s (operandShape o) (eqb-true (shapeNumber s) (shapeNumber (operandShape o)) (e2 .0)) in
     let ez : Size (sizeOf s n) ≡ Size z = e4 .1 in
     let ez′ : z ≡ sizeOf s n = cc in
     record {
@@ -120,9 +141,11 @@ goes k o n room z e = goes-by k o n room z (shapeOf k) refl e
 
 -- the other way: `Goes` says all of it
 pub going : (k : ℕ) (o : Operand) (n room z : ℕ) → Goes k o n room z → writtenOf k o n room ≡ Size z
-going k o n room z g = sym (written-size k o n room (operandShape o) (g .shape) (g .few) refl (g .count) z (g .size) (g .fits))
+going k o n room z g =
+    sym (written-size k o n room (operandShape o) (g .shape) (g .few) refl (g .count) z (g .size) (g .fits))
 
-pub writable : (k : ℕ) (o : Operand) (names out : List ℕ) (z : ℕ) → writtenOf k o (length names) (length out) ≡ Size z → Writable o names out
+pub writable : (k : ℕ) (o : Operand) (names out : List ℕ) (z : ℕ) → writtenOf k o (length names) (length out) ≡ Size z
+    → Writable o names out
 writable k o names out z e =
     let g = goes k o (length names) (length out) z e in
     record { count = g .count; fits = omega (arith, g .size, g .fits) }
@@ -139,20 +162,24 @@ pub plain-arm : (k : ℕ) (ns out : List ℕ) (o o′ : Operand) (x : List ℕ) 
 unfolding encode
 plain-arm k ns out o o′ x w e z h =
     let en : namesBytes ns ≡ [] = no-names ns (sym z ∙ ap namesIn (sym e) ∙ w .count) in
-    let bare : encode k o ns ≡ k ∷ operandBytes o′ = rw (e, en) (ap (λ (y : List ℕ). k ∷ y) (append-nil (operandBytes o′))) in
+    let bare : encode k o ns ≡ k ∷ operandBytes o′ =
+    rw (e, en) (ap (λ (y : List ℕ). k ∷ y) (append-nil (operandBytes o′))) in
     h ∙ ap (λ (y : List ℕ). front y out) (sym bare)
 
 -- and one with names
-pub names-arm : (k : ℕ) (ns out : List ℕ) (o o′ : Operand) (x : List ℕ) → o ≡ o′ → x ≡ front (encode k o′ ns) out → x ≡ front (encode k o ns) out
+pub names-arm : (k : ℕ) (ns out : List ℕ) (o o′ : Operand) (x : List ℕ) → o ≡ o′ → x ≡ front (encode k o′ ns) out
+    → x ≡ front (encode k o ns) out
 names-arm k ns out o o′ x e h = rw e h
 
 -- room in an arm
-pub arm-room : (o o′ : Operand) (ns out : List ℕ) → Writable o ns out → o ≡ o′ → sizeOf (operandShape o′) (length ns) ≤ length out
+pub arm-room : (o o′ : Operand) (ns out : List ℕ) → Writable o ns out → o ≡ o′
+    → sizeOf (operandShape o′) (length ns) ≤ length out
 arm-room o o′ ns out w e = rw e at (w .fits)
 
 -- what was written
 
-module _ (k : ℕ) (o : Operand) (names out : List ℕ) (answer : Written) (out′ : List ℕ) (w : Writes k o names out answer out′)
+module _ (k : ℕ) (o : Operand) (names out : List ℕ) (answer : Written) (out′ : List ℕ)
+    (w : Writes k o names out answer out′)
     (z : ℕ) (e : answer ≡ Size z) where
   is : writtenOf k o (length names) (length out) ≡ Size z
   is = sym (w .answers) ∙ e
@@ -161,13 +188,16 @@ module _ (k : ℕ) (o : Operand) (names out : List ℕ) (answer : Written) (out�
   written-front = w .cells ∙ ap (λ (x : Written). filled x (encode k o names) out) is
 
   pub written-length : z ≡ length (encode k o names)
-  written-length = let g = goes k o (length names) (length out) z is in g .size ∙ sym (length-encode k o names (g .count))
+  written-length = let g =
+      goes k o (length names) (length out) z is in g .size ∙ sym (length-encode k o names (g .count))
 
   -- decodes to what was given, under each table that has the opcode
   module _ (signs : SignsFit o) where
     formed : Formed k o names
-    formed = let g = goes k o (length names) (length out) z is in record { shape = g .shape; signs = signs; count = g .count }
+    formed = let g = goes k o (length names) (length out) z is in
+        record { shape = g .shape; signs = signs; count = g .count }
 
     pub written-decodes : (last : ℕ) → k ≤ last → (at : ℕ) → decode last at out′ ≡ Instr k o z
     written-decodes last l at =
-        rw (written-front, written-length) (decode-encode last k o names (drop (length (encode k o names)) out) l formed at)
+        rw (written-front, written-length)
+        (decode-encode last k o names (drop (length (encode k o names)) out) l formed at)

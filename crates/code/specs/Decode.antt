@@ -53,11 +53,12 @@ namesIn (O.U16U16U8 a b c) = 0
 abbrev pub sizeByNames : Shape → List ℕ → ℕ
 sizeByNames s u = sizeOf s (namesIn (operandIn s u))
 
--- an instruction of a shape at the front of u, the code from an offset on; 22, "an instruction is cut short", where its size
--- exceeds what is there
+-- an instruction of a shape at the front of u, the code from an offset on; 22, "an instruction is cut short", where
+-- its size exceeds what is there
 unfoldable pub stepIn : ℕ → Shape → List ℕ → Step
 stepIn at s u =
-    cond (leb (sizeByNames s u) (length u)) (Instr (getD u 0 0) (operandIn s u) (sizeByNames s u)) (Refused (CutShort at))
+    cond (leb (sizeByNames s u) (length u)) (Instr (getD u 0 0) (operandIn s u) (sizeByNames s u))
+    (Refused (CutShort at))
 
 -- 1, "if read, with its offset"
 abbrev pub whole : ℕ → Shaped → List ℕ → Step

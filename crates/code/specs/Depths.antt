@@ -42,7 +42,8 @@ pub record Begins (st : List ℕ) (o d : ℕ) : Type 0 where
 abbrev pub Leads : ℕ → Change → ℕ → Type 0
 Leads d c e = landing lowFalling d (E.By (c .up) (c .down)) ≡ Depth e
 
--- the fall-through depth: in range also where the instruction falls nowhere; where it falls, the next place has that depth
+-- the fall-through depth: in range also where the instruction falls nowhere; where it falls, the next place has that
+-- depth
 pub record Falls (a : ℕ → Option ℕ) (f : Flow) (o d : ℕ) : Type 0 where
   pub depth : ℕ
   pub leads : Leads d (f .net) depth

@@ -1,5 +1,5 @@
--- The records of the tables, and the handler lookup over a list of them: code.rs, `ExceptionEntry`, `find_exception_handler`;
--- "and over a lent slice of records" (R45).
+-- The records of the tables, and the handler lookup over a list of them: code.rs, `ExceptionEntry`,
+-- `find_exception_handler`; "and over a lent slice of records" (R45).
 -- Assumes nothing.
 use Prim.Native.Nat.{ℕ, _+_}
 use mathlib.Core.Bool.{Bool, true, false, cond}

@@ -37,13 +37,13 @@ rowBefore cells (suc i) = L.Row i (locationRow cells i)
 abbrev pub largestU32 : ℕ
 largestU32 = 4294967295
 
--- Location: "the row before the first row whose offset is greater, or the last row if none is"; none if "the offset exceeds u32"
--- (R44)
+-- Location: "the row before the first row whose offset is greater, or the last row if none is"; none if "the offset
+-- exceeds u32" (R44)
 unfoldable pub locationOf : List ℕ → ℕ → Located
 locationOf cells x = cond (ltb largestU32 x) L.Absent (rowBefore cells (firstGreater cells x))
 
--- what is recorded is found: a row is pushed where there is room and no used row's offset is greater, and the lookup of its
--- offset over the rows then used answers its number and its numbers
+-- what is recorded is found: a row is pushed where there is room and no used row's offset is greater, and the lookup
+-- of its offset over the rows then used answers its number and its numbers
 abbrev pub RecordedIsFound : Type 0
 RecordedIsFound =
     (locations : List ℕ) (rows : ℕ) (row : LocationRow) → locationRoom rows (length locations) ≡ true

@@ -68,8 +68,8 @@ pub fn names_of(operand: Operand) -> usize
     }
 }
 
-// The bytes of the keyword names of the instruction at an offset, two for each: the caller's own part of the code. Empty on a fault,
-// at the end or without names.
+// The bytes of the keyword names of the instruction at an offset, two for each: the caller's own part of the code.
+// Empty on a fault, at the end or without names.
 pub fn names_at<'a>(code: &'a [u8], at: usize) -> &'a [u8]
     ensures { λ r. ⌜ now r ≡ namesAt lastOpcode (drop at (now (code .entry))) ⌝ }
 {
@@ -162,8 +162,8 @@ fn flow_of(opcode: u8, operand: Operand, size: usize, next: usize, end: usize) -
     }
 }
 
-// How the instruction at an offset moves on: whether it falls through, what that does to the depth, where it jumps and what that
-// does to the depth. End and refusals are the step's.
+// How the instruction at an offset moves on: whether it falls through, what that does to the depth, where it jumps
+// and what that does to the depth. End and refusals are the step's.
 pub fn flow_at(code: &[u8], at: usize) -> Flowing
     ensures { λ r. ⌜ r ≡ flowOf lastOpcode at (drop at (now (code .entry))) ⌝ }
 {

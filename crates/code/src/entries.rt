@@ -36,7 +36,14 @@ impl ExceptionEntry {
         exception_stack_count: u16,
         kind: HandlerKind,
     ) -> Self
-        ensures { λ r. ⌜ r ≡ record { start = start; end = end; handler = handler; «stack_depth» = «stack_depth»; «exception_stack_count» = «exception_stack_count»; kind = kind } ⌝ }
+        ensures { λ r. ⌜ r ≡ record {
+          start = start;
+          end = end;
+          handler = handler;
+          «stack_depth» = «stack_depth»;
+          «exception_stack_count» = «exception_stack_count»;
+          kind = kind;
+        } ⌝ }
     {
         ExceptionEntry {
             start,

@@ -1,5 +1,6 @@
-// Compiled code: the decoder's step and the writer of one instruction, which are each other's inverse, and the lookups and records of
-// code.rs of pydantic/monty. Its tables are lent as plain numbers, six to a row for locations and handlers.
+// Compiled code: the decoder's step and the writer of one instruction, which are each other's inverse, and the
+// lookups and records of code.rs of pydantic/monty. Its tables are lent as plain numbers, six to a row for locations
+// and handlers.
 use op::Operand;
 use op::Refusal;
 

@@ -4,7 +4,8 @@ ghost use Prim.Native.Nat.{_<_};
 ghost use Rattle.code.specs.Rows.{rowCount, cell};
 ghost use Rattle.code.specs.Tables.{exceptionCells};
 ghost use Rattle.code.specs.Locations.{locationCount, locationRow};
-ghost use Rattle.code.specs.Lookups.{handlerRow, firstGreater, coversOf, covering, firstCovering, locationOf, handlerOf, constantOf, localNameOf};
+ghost use Rattle.code.specs.Lookups.{handlerRow, firstGreater, coversOf, covering, firstCovering, locationOf};
+ghost use Rattle.code.specs.Lookups.{handlerOf, constantOf, localNameOf};
 use crate::Constant;
 use crate::EXCEPTION_CELLS;
 use crate::Handled;
@@ -39,7 +40,8 @@ fn location_row(rows: &[u32], row: usize) -> LocationRow
     }
 }
 
-// The first row whose offset is greater, or the number of rows. Two rows a turn, so that half as many turns are counted.
+// The first row whose offset is greater, or the number of rows. Two rows a turn, so that half as many turns are
+// counted.
 fn first_greater(rows: &[u32], offset: usize) -> usize
     ensures { λ r. ⌜ r ≡ firstGreater (now (rows .entry)) offset ⌝ }
 {
@@ -63,8 +65,8 @@ fn first_greater(rows: &[u32], offset: usize) -> usize
     count
 }
 
-// The row before the first row whose offset is greater, or the last row if none is. A scan, and no binary search as in the Rust, so that this holds
-// of offsets in any order too.
+// The row before the first row whose offset is greater, or the last row if none is. A scan, and no binary search as
+// in the Rust, so that this holds of offsets in any order too.
 pub fn location_for_offset(rows: &[u32], offset: usize) -> Located
     ensures { λ r. ⌜ r ≡ locationOf (now (rows .entry)) offset ⌝ }
 {

@@ -55,7 +55,8 @@ fn write_names(out: &mut [u8], names: &[u16])
 // CallKw: positional count, n, names.
 fn write_call(out: &mut [u8], opcode: u8, positional: u8, n: u8, names: &[u16])
     requires { ⌜ 3 + 2 * length (now names) ≤ length (now out) ⌝ }
-    ensures { λ r. ⌜ now (out .exit) ≡ front (opcode ∷ positional ∷ n ∷ namesBytes (now (names .entry))) (now (out .entry)) ⌝ }
+    ensures { λ r. ⌜ now (out .exit) ≡ front (opcode ∷ positional ∷ n ∷ namesBytes (now (names .entry)))
+        (now (out .entry)) ⌝ }
 {
     store::put3(out, opcode, positional, n);
     write_names(&mut out[3..], names);
@@ -64,7 +65,8 @@ fn write_call(out: &mut [u8], opcode: u8, positional: u8, n: u8, names: &[u16])
 // CallAttrKw: attribute, positional count, n, names.
 fn write_attr_call(out: &mut [u8], opcode: u8, attribute: u16, positional: u8, n: u8, names: &[u16])
     requires { ⌜ 5 + 2 * length (now names) ≤ length (now out) ⌝ }
-    ensures { λ r. ⌜ now (out .exit) ≡ front (opcode ∷ wordBytes attribute ++ positional ∷ n ∷ namesBytes (now (names .entry))) (now (out .entry)) ⌝ }
+    ensures { λ r. ⌜ now (out .exit) ≡ front
+        (opcode ∷ wordBytes attribute ++ positional ∷ n ∷ namesBytes (now (names .entry))) (now (out .entry)) ⌝ }
 {
     store::put5(out, opcode, low(attribute), high(attribute), positional, n);
     write_names(&mut out[5..], names);

@@ -39,42 +39,54 @@ cell-of c o none e l = elim (decLe (cell c o) 65535) [
   | no h ↦ omega arith
 ]
 
-module _ (b : Book isa) (g : Good isa laws b) (closed : (r : Row isa) → Mem r (b .rows) → Closed isa laws (r .offset) (r .what)) where
+module _ (b : Book isa) (g : Good isa laws b)
+    (closed : (r : Row isa) → Mem r (b .rows) → Closed isa laws (r .offset) (r .what)) where
   checked : b .len ≤ codeLimit → (d d′ : List ℕ) (r : Checked) → b .len < length d
       → Promise lastOpcode (bytesOf isa (b .rows)) (cells (b .starts)) d d′ r
       → (r ≡ C.Accepted (length (b .rows))) × ((o : ℕ) → o ≤ b .len → cell d′ o ≡ cellOf (depths b g closed o))
   checked short d d′ r room P =
       let z : length (bytesOf isa (b .rows)) ≡ b .len = code-length (b .rows) (b .len) (g .chain) closed in
-      let a = accepted-when P (omega arith) (omega arith) (whole (b .rows) (b .len) (g .chain) closed) (listed b g closed) (depths b g closed) (assigned b g closed) in
+      let a = accepted-when P (omega arith) (omega arith) (whole (b .rows) (b .len) (g .chain) closed)
+      (listed b g closed) (depths b g closed) (assigned b g closed) in
       let c = a .cells in
       let s = a .solution in
       let same = smallest-agree (s .smallest) (least b g closed) in (
         a .answer ∙ ap C.Accepted (counts-one same (s .count) (counted b g closed)),
-        λ o l. ap (λ (x : List ℕ). getD x o 65536) (a .became) ∙ List·getD-append c (drop (suc (length (bytesOf isa (b .rows)))) d) 65536 o (omega (arith, s .size, z))
+        λ o l. ap (λ (x : List ℕ). getD x o 65536) (a .became)
+            ∙ List·getD-append c (drop (suc (length (bytesOf isa (b .rows)))) d) 65536 o (omega (arith, s .size, z))
             ∙ cell-of c o (depths b g closed o) (same o) (s .others o),
       )
 
   -- the same of any names for the bytes, the starts' cells and the length
-  module _ (s st : List ℕ) (n : ℕ) (es : s ≡ bytesOf isa (b .rows)) (et : st ≡ cells (b .starts)) (en : n ≡ b .len) where
-    pub smallest-at : Smallest lastOpcode s st (λ o. depthAt isa (b .rows) n (b .cur) o)
-    smallest-at = rw (es, et, en) (least b g closed)
+  module _ (s st : List ℕ) (n : ℕ) (es : s ≡ bytesOf isa (b .rows)) (et : st ≡ cells (b .starts)) (en : n ≡ b .len)
+    where
+      pub smallest-at : Smallest lastOpcode s st (λ o. depthAt isa (b .rows) n (b .cur) o)
+      smallest-at = rw (es, et, en) (least b g closed)
 
-    pub derived-at : (o d : ℕ) → (depthAt isa (b .rows) n (b .cur) o ≡ some d) ↔ Derived lastOpcode s st o d
-    derived-at o d = rw (es, et, en) (derives b g closed o d)
+      pub derived-at : (o d : ℕ) → (depthAt isa (b .rows) n (b .cur) o ≡ some d) ↔ Derived lastOpcode s st o d
+      derived-at o d = rw (es, et, en) (derives b g closed o d)
 
-    pub checked-at : b .len ≤ codeLimit → (d d′ : List ℕ) (r : Checked) → n < length d → Promise lastOpcode s st d d′ r
-        → (r ≡ C.Accepted (length (b .rows))) × ((o : ℕ) → o ≤ n → cell d′ o ≡ cellOf (depthAt isa (b .rows) n (b .cur) o))
-    checked-at short = rw (es, et, en) (checked short)
+      pub checked-at : b .len ≤ codeLimit → (d d′ : List ℕ) (r : Checked) → n < length d
+          → Promise lastOpcode s st d d′ r
+          → (r ≡ C.Accepted (length (b .rows)))
+          × ((o : ℕ) → o ≤ n → cell d′ o ≡ cellOf (depthAt isa (b .rows) n (b .cur) o))
+      checked-at short = rw (es, et, en) (checked short)
 
 -- a builder whose counts are sound is checked by its used code and starts
 
-built-sound : (b : Builder) (s st : List ℕ) → b .core .code ≤ length s → b .core .code ≤ codeLimit → b .starts * startCells ≤ length st
+built-sound : (b : Builder) (s st : List ℕ) → b .core .code ≤ length s → b .core .code ≤ codeLimit
+    → b .starts * startCells ≤ length st
     → builtSound b (length s) (length st) ≡ true
 unfolding builtSound
 built-sound b s st c l h =
-    rw (le-leb (b .core .code) (length s) c, le-leb (b .core .code) codeLimit l, le-leb (b .starts) (length st / startCells) (omega arith)) refl
+    rw (
+      le-leb (b .core .code) (length s) c,
+      le-leb (b .core .code) codeLimit l,
+      le-leb (b .starts) (length st / startCells) (omega arith),
+    ) refl
 
-pub built-promise : (b : Builder) (s st d d′ : List ℕ) (r : Checked) → b .core .code ≤ length s → b .core .code ≤ codeLimit
+pub built-promise : (b : Builder) (s st d d′ : List ℕ) (r : Checked) → b .core .code ≤ length s
+    → b .core .code ≤ codeLimit
     → b .starts * startCells ≤ length st → BuiltPromise b s st d d′ r
     → Promise lastOpcode (take (b .core .code) s) (take (b .starts * startCells) st) d d′ r
 unfolding BuiltPromise

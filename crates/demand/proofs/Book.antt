@@ -1,4 +1,5 @@
--- The builder without its bytes: rows of what was accepted while live, how they grow and are patched, and the invariant of that.
+-- The builder without its bytes: rows of what was accepted while live, how they grow and are patched, and the
+-- invariant of that.
 -- Assumes nothing.
 use mathlib.Core.Path.{_≡_}
 use mathlib.Core.Bool.{Bool, true, false}
@@ -39,15 +40,23 @@ module _ (I : Isa) where
 
   -- more rows, starts and marks behind the others
   abbrev pub grown : Book I → List (Row I) → List (ℕ × ℕ) → List Mark → ℕ → Depth → Book I
-  grown b xs ss ms n c = record { rows = b .rows ++ xs; len = n; cur = c; starts = b .starts ++ ss; marks = b .marks ++ ms }
+  grown b xs ss ms n c =
+      record { rows = b .rows ++ xs; len = n; cur = c; starts = b .starts ++ ss; marks = b .marks ++ ms }
 
   -- the instruction `w` behind the others, at depth d
   abbrev pub push : Book I → ℕ → What I → List Mark → Book I
-  push b d w ms = grown b (record { offset = b .len; depth = d; what = w } ∷ []) [] ms (b .len + size I w) (after (stops w) (net w d))
+  push b d w ms = grown b (record { offset = b .len; depth = d; what = w } ∷ []) [] ms (b .len + size I w)
+      (after (stops w) (net w d))
 
   -- the label k, whose jump stands at o with the taken depth d, is patched to the end
   abbrev pub patched : Book I → ℕ → ℕ → ℕ → Book I
-  patched b k o d = record { rows = map (resolve I k (b .len)) (b .rows); len = b .len; cur = Live d; starts = b .starts; marks = set (b .marks) k (Patched o d) }
+  patched b k o d = record {
+    rows = map (resolve I k (b .len)) (b .rows);
+    len = b .len;
+    cur = Live d;
+    starts = b .starts;
+    marks = set (b .marks) k (Patched o d);
+  }
 
 -- offsets follow one another from o to n
 abbrev pub Chain : (I : Isa) → ℕ → List (Row I) → ℕ → Type 0
@@ -78,7 +87,8 @@ pub record RowOK (I : Isa) (L : Laws I) (b : Book I) (r : Row I) : Type 0 where
   pub small : r .depth ≤ 65535
   pub came : Der I b (r .offset) (r .depth)
   pub nets : (e : ℕ) × (net I (r .what) (r .depth) ≡ some e)
-  pub falls : (e : ℕ) → stops I (r .what) ≡ false → net I (r .what) (r .depth) ≡ some e → Dep I b (r .offset + size I (r .what)) e
+  pub falls : (e : ℕ) → stops I (r .what) ≡ false → net I (r .what) (r .depth) ≡ some e
+      → Dep I b (r .offset + size I (r .what)) e
   pub leaps : (j : I .Jump) (g : Aim) → r .what ≡ leap j g → (e : ℕ) × (I .taken j (r .depth) ≡ some e)
   pub lands : (j : I .Jump) (t e : ℕ) → r .what ≡ leap j (to t) → I .taken j (r .depth) ≡ some e → Dep I b t e
 
@@ -95,8 +105,10 @@ pub record Good (I : Isa) (L : Laws I) (b : Book I) : Type 0 where
 
 -- what every event keeps: rows stay where they are with their edges, starts stay, depths stay
 pub record Moves (I : Isa) (b c : Book I) : Type 0 where
-  pub rows : (r : Row I) → Mem r (b .rows) → (s : Row I) × Mem s (c .rows) × (s .offset ≡ r .offset) × (s .depth ≡ r .depth)
-      × (size I (s .what) ≡ size I (r .what)) × (net I (s .what) ≡ net I (r .what)) × (stops I (s .what) ≡ stops I (r .what))
+  pub rows : (r : Row I) → Mem r (b .rows) → (s : Row I) × Mem s (c .rows) × (s .offset ≡ r .offset)
+      × (s .depth ≡ r .depth)
+      × (size I (s .what) ≡ size I (r .what)) × (net I (s .what) ≡ net I (r .what))
+      × (stops I (s .what) ≡ stops I (r .what))
       × ((j : I .Jump) (t : ℕ) → r .what ≡ leap j (to t) → s .what ≡ leap j (to t))
   pub starts : (s : ℕ × ℕ) → Mem s (b .starts) → Mem s (c .starts)
   pub deps : (o d : ℕ) → Dep I b o d → Dep I c o d

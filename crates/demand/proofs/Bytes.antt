@@ -3,7 +3,8 @@
 use mathlib.Core.Path.{_≡_, refl, sym, ap, _∙_}
 use mathlib.Core.Bool.{Bool, true, false, cond}
 use mathlib.Core.Logic.{_⊎_, inl, inr}
-use mathlib.Core.List.{List, [], _∷_, _++_, map, append-assoc, List·Memᴰ as Mem, List·Memᴰ·head as mhead, List·Memᴰ·tail as mtail, List·Memᴰ·not-nil}
+use mathlib.Core.List.{List, [], _∷_, _++_, map, append-assoc, List·Memᴰ as Mem, List·Memᴰ·head as mhead}
+use mathlib.Core.List.{List·Memᴰ·tail as mtail, List·Memᴰ·not-nil}
 use mathlib.Core.Option.{some, none}
 use Prim.Native.Nat.{ℕ, _+_, _-_, _/_, _%_, _≤_, _<_}
 use native.Mathlib.Omega.{arith}
@@ -38,7 +39,8 @@ module _ (I : Isa) where
 
   pub bytes-append : (xs ys : List (Row I)) → bytesOf (xs ++ ys) ≡ bytesOf xs ++ bytesOf ys
   bytes-append [] ys = refl
-  bytes-append (x ∷ xs) ys = rw (bytes-append xs ys) (sym (append-assoc (bytesAt (x .offset) (x .what)) (bytesOf xs) (bytesOf ys)))
+  bytes-append (x ∷ xs) ys =
+      rw (bytes-append xs ys) (sym (append-assoc (bytesAt (x .offset) (x .what)) (bytesOf xs) (bytesOf ys)))
 
   pub bytes-length : (o n : ℕ) (rs : List (Row I)) → Chain I o rs n → o + length (bytesOf rs) ≡ n
   bytes-length o n [] h = omega arith
@@ -57,7 +59,8 @@ module _ (I : Isa) (L : Laws I) where
   chain-le o n (r ∷ rs) h = omega (arith, chain-le (o + size I (r .what)) n rs (h .1), size-some (r .what))
 
   -- the rows' offsets rise from o to n
-  pub chain-in : (o n : ℕ) (rs : List (Row I)) (r : Row I) → Chain I o rs n → Mem r rs → (o ≤ r .offset) × (r .offset < n)
+  pub chain-in : (o n : ℕ) (rs : List (Row I)) (r : Row I) → Chain I o rs n → Mem r rs
+      → (o ≤ r .offset) × (r .offset < n)
   chain-in o n (x ∷ rs) r h (mhead e) =
       let q : r .offset ≡ o = ap (λ (y : Row I). y .offset) e ∙ h .0 in
       omega (arith, chain-le (o + size I (x .what)) n rs (h .1), size-some (x .what))
@@ -68,11 +71,13 @@ module _ (I : Isa) (L : Laws I) where
       → ((r : Row I) × Mem r rs × (r .offset ≡ o) × (r .depth ≡ d)) ⊎ ((n ≡ o) × (c ≡ Live d))
   depth-sound [] n c o d h = go (eqb n o) refl c h
     where
-      go : (x : Bool) → eqb n o ≡ x → (c : Depth) → cond x (atEnd c) none ≡ some d → ((r : Row I) × Mem r [] × (r .offset ≡ o) × (r .depth ≡ d)) ⊎ ((n ≡ o) × (c ≡ Live d))
+      go : (x : Bool) → eqb n o ≡ x → (c : Depth) → cond x (atEnd c) none ≡ some d
+          → ((r : Row I) × Mem r [] × (r .offset ≡ o) × (r .depth ≡ d)) ⊎ ((n ≡ o) × (c ≡ Live d))
       go false e c h = clash cc
       go true e Dead h = clash cc
       go true e (Live x) h = inr (eqb-true n o e, cc)
-  depth-sound (x ∷ rs) n c o d h = go (eqb (x .offset) o) refl h (λ (k : depthAt I rs n c o ≡ some d). depth-sound rs n c o d k)
+  depth-sound (x ∷ rs) n c o d h =
+      go (eqb (x .offset) o) refl h (λ (k : depthAt I rs n c o ≡ some d). depth-sound rs n c o d k)
     where
       up : ((r : Row I) × Mem r rs × (r .offset ≡ o) × (r .depth ≡ d)) ⊎ ((n ≡ o) × (c ≡ Live d))
           → ((r : Row I) × Mem r (x ∷ rs) × (r .offset ≡ o) × (r .depth ≡ d)) ⊎ ((n ≡ o) × (c ≡ Live d))
@@ -80,12 +85,14 @@ module _ (I : Isa) (L : Laws I) where
       up (inr t) = inr t
 
       go : (y : Bool) → eqb (x .offset) o ≡ y → cond y (some (x .depth)) (depthAt I rs n c o) ≡ some d
-          → (depthAt I rs n c o ≡ some d → ((r : Row I) × Mem r rs × (r .offset ≡ o) × (r .depth ≡ d)) ⊎ ((n ≡ o) × (c ≡ Live d)))
+          → (depthAt I rs n c o ≡ some d → ((r : Row I) × Mem r rs × (r .offset ≡ o) × (r .depth ≡ d)) ⊎
+          ((n ≡ o) × (c ≡ Live d)))
           → ((r : Row I) × Mem r (x ∷ rs) × (r .offset ≡ o) × (r .depth ≡ d)) ⊎ ((n ≡ o) × (c ≡ Live d))
       go true e h k = inl (x, mhead refl, eqb-true (x .offset) o e, cc)
       go false e h k = up (k h)
 
-  pub depth-row : (s : ℕ) (rs : List (Row I)) (n : ℕ) (c : Depth) (r : Row I) → Chain I s rs n → Mem r rs → depthAt I rs n c (r .offset) ≡ some (r .depth)
+  pub depth-row : (s : ℕ) (rs : List (Row I)) (n : ℕ) (c : Depth) (r : Row I) → Chain I s rs n → Mem r rs
+      → depthAt I rs n c (r .offset) ≡ some (r .depth)
   depth-row s (x ∷ rs) n c r h (mhead e) = rw (e, eq-eqb (x .offset) (x .offset) refl)
   depth-row s (x ∷ rs) n c r h (mtail m) =
       let q = chain-in (s + size I (x .what)) n rs r (h .1) m in
@@ -124,15 +131,18 @@ module _ (I : Isa) (L : Laws I) (k t : ℕ) where
   aim-cases (leap j (to u)) = inl refl
   aim-cases (leap j (waits l)) = go (eqb l k) refl
     where
-      go : (y : Bool) → eqb l k ≡ y → (_≡_ {A = What I} (leap j (cond y (to t) (waits l))) (leap j (waits l))) ⊎ ((i : I .Jump) × (_≡_ {A = What I} (leap j (waits l)) (leap i (waits k))))
+      go : (y : Bool) → eqb l k ≡ y → (_≡_ {A = What I} (leap j (cond y (to t) (waits l))) (leap j (waits l))) ⊎
+          ((i : I .Jump) × (_≡_ {A = What I} (leap j (waits l)) (leap i (waits k))))
       go true e = let q = eqb-true l k e in inr (j, rw q)
       go false e = inl refl
 
-  resolve-none : (rs : List (Row I)) → ((r : Row I) (j : I .Jump) → Mem r rs → r .what ≡ leap j (waits k) → ⊥) → map (resolve I k t) rs ≡ rs
+  resolve-none : (rs : List (Row I)) → ((r : Row I) (j : I .Jump) → Mem r rs → r .what ≡ leap j (waits k) → ⊥)
+      → map (resolve I k t) rs ≡ rs
   resolve-none [] n = refl
   resolve-none (r ∷ rs) n = go (aim-cases (r .what)) (resolve-none rs (λ q j m e. n q j (mtail m) e))
     where
-      go : (settledAim I k t (r .what) ≡ r .what) ⊎ ((j : I .Jump) × (r .what ≡ leap j (waits k))) → map (resolve I k t) rs ≡ rs → map (resolve I k t) (r ∷ rs) ≡ r ∷ rs
+      go : (settledAim I k t (r .what) ≡ r .what) ⊎ ((j : I .Jump) × (r .what ≡ leap j (waits k)))
+          → map (resolve I k t) rs ≡ rs → map (resolve I k t) (r ∷ rs) ≡ r ∷ rs
       go (inl e) ih = rw (e, ih)
       go (inr (j, e)) ih = absurd (n r j (mhead refl) e)
 
@@ -144,7 +154,8 @@ module _ (I : Isa) (L : Laws I) (k t : ℕ) where
     abbrev pub Has : List (Row I) → Type 0
     Has rs = (r : Row I) × (j : I .Jump) × Mem r rs × (r .what ≡ leap j (waits k))
 
-    head-aimed : (s n : ℕ) (r : Row I) (rs : List (Row I)) (x : ℕ) (j : I .Jump) → Chain I s (r ∷ rs) n → Sits (r ∷ rs) → s + x ≡ o → r .what ≡ leap j (waits k)
+    head-aimed : (s n : ℕ) (r : Row I) (rs : List (Row I)) (x : ℕ) (j : I .Jump) → Chain I s (r ∷ rs) n → Sits (r ∷ rs)
+        → s + x ≡ o → r .what ≡ leap j (waits k)
         → patch2 (bytesOf I (r ∷ rs)) x (bits o t) ≡ bytesOf I (map (resolve I k t) (r ∷ rs))
     head-aimed s n r rs x j h st e w =
         let f = st r j (mhead refl) w in
@@ -155,7 +166,8 @@ module _ (I : Isa) (L : Laws I) (k t : ℕ) where
         let y = st q i (mtail m) v in omega (arith, size-some I L (r .what))) in
         rw (z, none, w, eq-eqb k k refl, f)
 
-    tail-aimed : (s n : ℕ) (r : Row I) (rs : List (Row I)) (x : ℕ) → Chain I s (r ∷ rs) n → Sits (r ∷ rs) → s + x ≡ o → (q : Row I) (j : I .Jump) → Mem q rs → q .what ≡ leap j (waits k)
+    tail-aimed : (s n : ℕ) (r : Row I) (rs : List (Row I)) (x : ℕ) → Chain I s (r ∷ rs) n → Sits (r ∷ rs) → s + x ≡ o
+        → (q : Row I) (j : I .Jump) → Mem q rs → q .what ≡ leap j (waits k)
         → (y : ℕ) × (x ≡ length (bytesAt I (r .offset) (r .what)) + y) × (s + size I (r .what) + y ≡ o)
     tail-aimed s n r rs x h st e q j m w =
         let c = chain-in I L (s + size I (r .what)) n rs q (h .1) m in

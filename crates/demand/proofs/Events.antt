@@ -31,8 +31,10 @@ net-small I L (leap j g) d e h = L .jnet-small j d e h
 
 -- no mark, or the one of an open label
 abbrev pub Marked : (I : Isa) → Book I → ℕ → What I → List Mark → Type 0
-Marked I b d w ms = ((j : I .Jump) (k : ℕ) → w ≡ leap j (waits k) → (t : ℕ) × (getElem? (b .marks ++ ms) k ≡ some (Open (b .len) t)) × (I .taken j d ≡ some t))
-    × ((i o t : ℕ) → getElem? ms i ≡ some (Open o t) → (j : I .Jump) × (w ≡ leap j (waits (length (b .marks) + i))) × (b .len ≡ o))
+Marked I b d w ms = ((j : I .Jump) (k : ℕ) → w ≡ leap j (waits k)
+    → (t : ℕ) × (getElem? (b .marks ++ ms) k ≡ some (Open (b .len) t)) × (I .taken j d ≡ some t))
+    × ((i o t : ℕ) → getElem? ms i ≡ some (Open o t)
+    → (j : I .Jump) × (w ≡ leap j (waits (length (b .marks) + i))) × (b .len ≡ o))
     × ((i o t : ℕ) → getElem? ms i ≡ some (Target o t) → ⊥)
 
 module _ (I : Isa) (L : Laws I) (b : Book I) (g : Good I L b) (d : ℕ) (l : b .cur ≡ Live d) where
@@ -40,16 +42,18 @@ module _ (I : Isa) (L : Laws I) (b : Book I) (g : Good I L b) (d : ℕ) (l : b .
       → ((j : I .Jump) (u : Aim) → w ≡ leap j u → (t : ℕ) × (I .taken j d ≡ some t))
       → ((j : I .Jump) (o t : ℕ) → w ≡ leap j (to o) → I .taken j d ≡ some t → Dep I b o t)
       → Marked I b d w ms → Good I L (push I b d w ms)
-  push-good w ms v e n lp ld mk = grow I L b (r ∷ []) [] ms (b .len + size I w) (after I (stops I w) (net I w d)) g (record {
-    chain = (refl, refl);
-    bridge = bridge;
-    each = λ q m. rw (List·Memᴰ·eq-of-singleton m) ok;
-    tips = λ t h. tips t h;
-    begins = λ o t m. absurd (List·Memᴰ·not-nil m);
-    opens = λ q j k m h. rw (List·Memᴰ·eq-of-singleton m) (mk .0 j k (rw (ap what′ (List·Memᴰ·eq-of-singleton m)) at h));
-    labels = λ i o t h. let p = mk .1 i o t h in (r, p .0, mhead refl, p .1, p .2);
-    spots = λ i o t h. absurd (mk .2 i o t h);
-  })
+  push-good w ms v e n lp ld mk =
+      grow I L b (r ∷ []) [] ms (b .len + size I w) (after I (stops I w) (net I w d)) g (record {
+        chain = (refl, refl);
+        bridge = bridge;
+        each = λ q m. rw (List·Memᴰ·eq-of-singleton m) ok;
+        tips = λ t h. tips t h;
+        begins = λ o t m. absurd (List·Memᴰ·not-nil m);
+        opens = λ q j k m h. rw (List·Memᴰ·eq-of-singleton m)
+            (mk .0 j k (rw (ap what′ (List·Memᴰ·eq-of-singleton m)) at h));
+        labels = λ i o t h. let p = mk .1 i o t h in (r, p .0, mhead refl, p .1, p .2);
+        spots = λ i o t h. absurd (mk .2 i o t h);
+      })
     where
       r : Row I
       r = record { offset = b .len; depth = d; what = w }
@@ -69,7 +73,8 @@ module _ (I : Isa) (L : Laws I) (b : Book I) (g : Good I L b) (d : ℕ) (l : b .
       came : Der I (push I b d w ms) (b .len) d
       came = der-moves mv (g .tips d l .0)
 
-      tips : (t : ℕ) → after I (stops I w) (net I w d) ≡ Live t → Der I (push I b d w ms) (b .len + size I w) t × (t ≤ 65535)
+      tips : (t : ℕ) → after I (stops I w) (net I w d) ≡ Live t
+          → Der I (push I b d w ms) (b .len + size I w) t × (t ≤ 65535)
       tips t h = let k = after-live I (stops I w) (net I w d) t h in (fall r mem came (k .0) (k .1) refl, net-small I L w d t (k .1))
 
       ok : RowOK I L (push I b d w ms) r
@@ -94,11 +99,13 @@ module _ (I : Isa) (L : Laws I) (b : Book I) (g : Good I L b) (d : ℕ) (l : b .
         (λ i o t h. clash cc),
       )
 
-  pub jump-good : (j : I .Jump) (o t : ℕ) → near (b .len) o ≡ true → (e : ℕ) → I .jnet j d ≡ some e → I .taken j d ≡ some t
+  pub jump-good : (j : I .Jump) (o t : ℕ) → near (b .len) o ≡ true → (e : ℕ) → I .jnet j d ≡ some e
+      → I .taken j d ≡ some t
       → Dep I b o t → Good I L (push I b d (leap j (to o)) [])
   jump-good j o t v e n k at = push-good (leap j (to o)) [] (L .jnet-jumps j d e n, v) e n
       (λ i u h. let q : i ≡ j = cc in (t, rw q k))
-      (λ i u f h q. let p : u ≡ o = cc in let p′ : i ≡ j = cc in let q′ : I .taken j d ≡ some f = rw p′ at q in let r : f ≡ t = cc in rw (p, r) at′) (
+      (λ i u f h q. let p : u ≡ o = cc in let p′ : i ≡ j = cc in let q′ : I .taken j d ≡ some f = rw p′ at q in
+      let r : f ≡ t = cc in rw (p, r) at′) (
         (λ i u h. clash cc),
         (λ i u f h. clash cc),
         (λ i u f h. clash cc),
@@ -113,10 +120,12 @@ module _ (I : Isa) (L : Laws I) (b : Book I) (g : Good I L b) (d : ℕ) (l : b .
 
   pub label-good : (j : I .Jump) (t e : ℕ) → I .jnet j d ≡ some e → I .taken j d ≡ some t
       → Good I L (push I b d (leap j (waits (length (b .marks)))) (Open (b .len) t ∷ []))
-  label-good j t e n k = push-good (leap j (waits (length (b .marks)))) (Open (b .len) t ∷ []) (L .jnet-jumps j d e n) e n
+  label-good j t e n k =
+      push-good (leap j (waits (length (b .marks)))) (Open (b .len) t ∷ []) (L .jnet-jumps j d e n) e n
       (λ i u h. let q : i ≡ j = cc in (t, rw q k))
       (λ i u f h q. clash cc) (
-        (λ i u h. let q : i ≡ j = cc in let q′ : u ≡ length (b .marks) = cc in (t, rw q′ (nth-seam (b .marks) (Open (b .len) t) []), rw q k)),
+        (λ i u h. let q : i ≡ j = cc in let q′ : u ≡ length (b .marks) = cc in
+            (t, rw q′ (nth-seam (b .marks) (Open (b .len) t) []), rw q k)),
         (λ i o f h. let q = one-mark (Open (b .len) t) (Open o f) i h in let q′ = q .0 in let q″ = q .1 in
             (j, ap (λ (x : ℕ). leap j (waits x)) (omega arith), cc)),
         (λ i o f h. let q = one-mark (Open (b .len) t) (Target o f) i h in let q″ = q .1 in clash cc),
@@ -141,7 +150,8 @@ module _ (I : Isa) (L : Laws I) (b : Book I) (g : Good I L b) (d : ℕ) (l : b .
       mv = moves-grown I L b [] [] (Target (b .len) d ∷ []) (b .len) (Live d) bridge
 
 module _ (I : Isa) (L : Laws I) (b : Book I) (g : Good I L b) where
-  pub region-good : (d : ℕ) → b .cur ≡ Dead → d ≤ 65535 → Good I L (grown I b [] ((b .len, d) ∷ []) [] (b .len) (Live d))
+  pub region-good : (d : ℕ) → b .cur ≡ Dead → d ≤ 65535
+      → Good I L (grown I b [] ((b .len, d) ∷ []) [] (b .len) (Live d))
   region-good d l s = grow I L b [] ((b .len, d) ∷ []) [] (b .len) (Live d) g (record {
     chain = refl;
     bridge = λ t h. clash cc;

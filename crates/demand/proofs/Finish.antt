@@ -1,4 +1,5 @@
--- Rows with the invariant, where no jump waits: their depths are the smallest assignment for their bytes and the starts.
+-- Rows with the invariant, where no jump waits: their depths are the smallest assignment for their bytes and the
+-- starts.
 -- Assumes nothing.
 use mathlib.Core.Path.{_≡_, refl, sym, subst, _∙_}
 use mathlib.Core.Logic.{_⊎_, inl, inr}
@@ -33,7 +34,8 @@ use Rattle.demand.proofs.Machining.{leads-of, depth-is, laws}
 use Rattle.demand.proofs.Pairs.{begins-mem, mem-begins, cells-length}
 use Rattle.demand.proofs.Standing.{said, said-net, said-stops, flowAt, row-stands, end-stands, row-place, end-place, rising}
 
-module _ (b : Book isa) (g : Good isa laws b) (closed : (r : Row isa) → Mem r (b .rows) → Closed isa laws (r .offset) (r .what)) where
+module _ (b : Book isa) (g : Good isa laws b)
+    (closed : (r : Row isa) → Mem r (b .rows) → Closed isa laws (r .offset) (r .what)) where
   abbrev pub code : List ℕ
   code = bytesOf isa (b .rows)
 
@@ -49,7 +51,8 @@ module _ (b : Book isa) (g : Good isa laws b) (closed : (r : Row isa) → Mem r 
   sound : (o d : ℕ) → depths o ≡ some d → Dep isa b o d
   sound o d h = go (depth-sound isa laws (b .rows) (b .len) (b .cur) o d h)
     where
-      go : ((r : Row isa) × Mem r (b .rows) × (r .offset ≡ o) × (r .depth ≡ d)) ⊎ ((b .len ≡ o) × (b .cur ≡ Live d)) → Dep isa b o d
+      go : ((r : Row isa) × Mem r (b .rows) × (r .offset ≡ o) × (r .depth ≡ d)) ⊎ ((b .len ≡ o) × (b .cur ≡ Live d))
+          → Dep isa b o d
       go (inl t) = row (t .0) (t .1) (t .2) (t .3)
       go (inr t) = tip (t .0) (t .1)
 
@@ -76,8 +79,11 @@ module _ (b : Book isa) (g : Good isa laws b) (closed : (r : Row isa) → Mem r 
   down {o} {d} (begin m) = start (mem-begins (b .starts) o d m)
   down {o} {d} (K.fall r m h s n q) =
       fall (down h) (stands r m) (rw (said-stops (r .offset) (r .what), s) refl)
-      (leads-of lowFalling (r .depth) d (effectOf (said (r .offset) (r .what) .opcode) (said (r .offset) (r .what) .operand)) (said-net (r .offset) (r .what) (r .depth) d n)) q
-  down {o} {d} (hop r j m h w t) = leap-down (r .offset) (r .depth) (r .what) (stands r m) (down h) (g .each r m .lands j o d w t) w t
+      (leads-of lowFalling (r .depth) d
+      (effectOf (said (r .offset) (r .what) .opcode) (said (r .offset) (r .what) .operand))
+      (said-net (r .offset) (r .what) (r .depth) d n)) q
+  down {o} {d} (hop r j m h w t) =
+      leap-down (r .offset) (r .depth) (r .what) (stands r m) (down h) (g .each r m .lands j o d w t) w t
     where
       leap-down : (p e : ℕ) (x : What isa) → Stands lastOpcode code p (flowAt (length code) p x)
           → Derived lastOpcode code (cells (b .starts)) p e → Dep isa b o d → x ≡ leap j (to o)
@@ -104,7 +110,8 @@ module _ (b : Book isa) (g : Good isa laws b) (closed : (r : Row isa) → Mem r 
           has = λ f. complete (o + size isa w) (n .0) (ok .falls (n .0) (sym (said-stops o w) ∙ not-true (deadMaker (said o w .opcode)) f) (n .1));
         }
 
-  row-jumps : (o d : ℕ) (w : What isa) → Mem (record { offset = o; depth = d; what = w }) (b .rows) → Closed isa laws o w
+  row-jumps : (o d : ℕ) (w : What isa) → Mem (record { offset = o; depth = d; what = w }) (b .rows)
+      → Closed isa laws o w
       → (flowAt (length code) o w .goal ≡ Nowhere → ⊥) → Jumps depths (flowAt (length code) o w) d
   row-jumps o d (one i) m v n = absurd (n (v .still (o + size isa (one i)) (length code)))
   row-jumps o d (leap j (waits l)) m v n = absurd v
@@ -120,12 +127,17 @@ module _ (b : Book isa) (g : Good isa laws b) (closed : (r : Row isa) → Mem r 
         has = complete t (e .0) at;
       }
 
-  row-kept : (r : Row isa) → Mem r (b .rows) → Kept depths (flowAt (length code) (r .offset) (r .what)) (r .offset) (r .depth)
-  row-kept r m = record { falls = row-falls (r .offset) (r .depth) (r .what) m; jumps = row-jumps (r .offset) (r .depth) (r .what) m (closed r m) }
+  row-kept : (r : Row isa) → Mem r (b .rows)
+      → Kept depths (flowAt (length code) (r .offset) (r .what)) (r .offset) (r .depth)
+  row-kept r m = record {
+    falls = row-falls (r .offset) (r .depth) (r .what) m;
+    jumps = row-jumps (r .offset) (r .depth) (r .what) m (closed r m);
+  }
 
   kept : (o d : ℕ) (f : Flow) → Dep isa b o d → Stands lastOpcode code o f → Kept depths f o d
   kept o d f (row r m e q) st =
-      let same : f ≡ flowAt (length code) (r .offset) (r .what) = stands-one (subst (λ (x : ℕ). Stands lastOpcode code x f) (sym e) st) (stands r m) in
+      let same : f ≡ flowAt (length code) (r .offset) (r .what) =
+      stands-one (subst (λ (x : ℕ). Stands lastOpcode code x f) (sym e) st) (stands r m) in
       rw (← e, ← q, same) (row-kept r m)
   kept o d f (tip e q) st = absurd (end-stands (b .rows) (b .len) (g .chain) closed e st)
 
@@ -141,7 +153,8 @@ module _ (b : Book isa) (g : Good isa laws b) (closed : (r : Row isa) → Mem r 
   least = smallest assigned depths-derived
 
   pub derives : (o d : ℕ)
-      → (depths o ≡ some d → Derived lastOpcode code (cells (b .starts)) o d) × (Derived lastOpcode code (cells (b .starts)) o d → depths o ≡ some d)
+      → (depths o ≡ some d → Derived lastOpcode code (cells (b .starts)) o d)
+      × (Derived lastOpcode code (cells (b .starts)) o d → depths o ≡ some d)
   derives o d = (depths-derived o d, λ D. derived-in assigned D)
 
   -- the start list can be
@@ -149,7 +162,8 @@ module _ (b : Book isa) (g : Good isa laws b) (closed : (r : Row isa) → Mem r 
   listed = record {
     even = omega (arith, cells-length (b .starts));
     good = λ k l.
-        let at = g .begins _ _ (begins-mem (b .starts) _ _ (record { row = k; inside = l; offset = refl; depth = refl })) in
+        let at = g .begins _ _ (begins-mem (b .starts)
+        _ _ (record { row = k; inside = l; offset = refl; depth = refl })) in
         (came _ _ at .1, place _ _ at);
   }
 

@@ -35,7 +35,8 @@ use Rattle.builder.proofs.PatchPlans.{patch-guard-go, patch-goes}
 use Rattle.demand.proofs.Idle.{guard-never}
 
 module _ (b : Builder) (k : ℕ) (code locs : List ℕ) (within : b .core .code ≤ length code) where
-  put-held : (d : ℕ) (o : Operand) (ns : List ℕ) (word s w : ℕ) (a : Depth) → LiveGoes (b .core) (b .location) d k o (length ns) word (length code) (length locs) s a w
+  put-held : (d : ℕ) (o : Operand) (ns : List ℕ) (word s w : ℕ) (a : Depth)
+      → LiveGoes (b .core) (b .location) d k o (length ns) word (length code) (length locs) s a w
       → b .core .code + s ≤ length (put (b .core .code) (encode k o ns) code)
   put-held d o ns word s w a g =
       let z = length-encode k o ns (g .count) in
@@ -51,38 +52,44 @@ module _ (b : Builder) (k : ℕ) (code locs : List ℕ) (within : b .core .code 
         let g = plan-goes (b .core) (b .location) k name o (length ns) (length code) (length locs) s w a e in
         put-held (g .here) o ns 0 s w a (g .goes)
 
-    pub emit-held : after (emitNamed b k name o ns code locs .answer) b .core .code ≤ length (emitNamed b k name o ns code locs .code)
+    pub emit-held : after (emitNamed b k name o ns code locs .answer) b .core .code
+        ≤ length (emitNamed b k name o ns code locs .code)
     unfolding emitNamed emitCore
     emit-held = emit-held-by (planOf (b .core) (b .location) k name o (length ns) (length code) (length locs)) refl
 
   module _ (marks : List ℕ) where
     jump-held-by : (p : Plan) → jumpPlanOf (b .core) (b .location) k (length code) (length locs) (length marks) ≡ p
-        → afterJump (commitJump p b k code locs marks .answer) b .core .code ≤ length (commitJump p b k code locs marks .code)
+        → afterJump (commitJump p b k code locs marks .answer) b .core .code
+        ≤ length (commitJump p b k code locs marks .code)
     jump-held-by Idle e = within
     jump-held-by (Refuse r) e = within
     jump-held-by (Go a w s) e =
         let g = forward-goes (b .core) (b .location) k (length code) (length locs) (length marks) s w a e in
         put-held (g .here) unpatched [] w s w a (g .goes)
 
-    pub jump-held : afterJump (emitJumpOf b k code locs marks .answer) b .core .code ≤ length (emitJumpOf b k code locs marks .code)
+    pub jump-held : afterJump (emitJumpOf b k code locs marks .answer) b .core .code
+        ≤ length (emitJumpOf b k code locs marks .code)
     unfolding emitJumpOf
     jump-held = jump-held-by (jumpPlanOf (b .core) (b .location) k (length code) (length locs) (length marks)) refl
 
     module _ (t : JumpTarget) where
       to-held-by : (p : Plan) → toPlanOf (b .core) (b .location) k t (length code) (length locs) marks ≡ p
-          → after (outcomeBy b (commitTo p (b .core) (b .location) k code locs) .answer) b .core .code ≤ length (commitTo p (b .core) (b .location) k code locs .code)
+          → after (outcomeBy b (commitTo p (b .core) (b .location) k code locs) .answer) b .core .code
+          ≤ length (commitTo p (b .core) (b .location) k code locs .code)
       to-held-by Idle e = within
       to-held-by (Refuse r) e = within
       to-held-by (Go a w s) e =
           let g = to-goes (b .core) (b .location) k t (length code) (length locs) marks s w a e in
           put-held (g .here) (jumpBy w) [] w s w a (g .goes)
 
-      pub to-held : after (emitJumpToOf b k t code locs marks .answer) b .core .code ≤ length (emitJumpToOf b k t code locs marks .code)
+      pub to-held : after (emitJumpToOf b k t code locs marks .answer) b .core .code
+          ≤ length (emitJumpToOf b k t code locs marks .code)
       unfolding emitJumpToOf jumpToCore
       to-held = to-held-by (toPlanOf (b .core) (b .location) k t (length code) (length locs) marks) refl
 
 module _ (b : Builder) (code marks : List ℕ) (within : b .core .code ≤ length code) where
-  patch-place : (x : JumpLabel) (o w : ℕ) (a : Depth) → patchPlanOf (b .core) x (length code) marks ≡ Patching.Go a w o → o + 3 ≤ b .core .code
+  patch-place : (x : JumpLabel) (o w : ℕ) (a : Depth) → patchPlanOf (b .core) x (length code) marks ≡ Patching.Go a w o
+      → o + 3 ≤ b .core .code
   unfolding patchPlanOf
   patch-place L.Dead o w a e = absurd (guard-never (markable (b .core) (length code) (length marks)) Unsound o w a e)
   patch-place (L.Row i) o w a e =
@@ -95,6 +102,7 @@ module _ (b : Builder) (code marks : List ℕ) (within : b .core .code ≤ lengt
   patch-held-by x (Patching.Refuse r) e = within
   patch-held-by x (Patching.Go a w o) e = omega (arith, length-put (o + 1) (wordBytes w) code (omega (arith, patch-place x o w a e)))
 
-  pub patch-held : (x : JumpLabel) → after (patchJumpOf b x code marks .answer) b .core .code ≤ length (patchJumpOf b x code marks .code)
+  pub patch-held : (x : JumpLabel) → after (patchJumpOf b x code marks .answer) b .core .code
+      ≤ length (patchJumpOf b x code marks .code)
   unfolding patchJumpOf
   patch-held x = patch-held-by x (patchPlanOf (b .core) x (length code) marks) refl

@@ -26,7 +26,8 @@ use Rattle.builder.specs.Back.{toAsked, toPlanOf}
 use Rattle.builder.specs.Patch.{markPlanOf, openPlan, patchGuard}
 use Rattle.builder.proofs.Plans.{line-idle}
 
-pub plan-idle : (c : Core) (l : Location) (k name : ℕ) (o : Operand) (n cl ll : ℕ) → planOf c l k name o n cl ll ≡ Idle → c .depth ≡ Dead
+pub plan-idle : (c : Core) (l : Location) (k name : ℕ) (o : Operand) (n cl ll : ℕ) → planOf c l k name o n cl ll ≡ Idle
+    → c .depth ≡ Dead
 unfolding planOf
 plan-idle c l k name o n cl ll e = line-idle (plainAsked c l k name o n cl ll) e
 
@@ -34,7 +35,8 @@ pub jump-idle : (c : Core) (l : Location) (k cl ll ml : ℕ) → jumpPlanOf c l 
 unfolding jumpPlanOf
 jump-idle c l k cl ll ml e = line-idle (jumpAsked c l k cl ll ml) e
 
-pub to-idle : (c : Core) (l : Location) (k : ℕ) (t : JumpTarget) (cl ll : ℕ) (marks : List ℕ) → toPlanOf c l k t cl ll marks ≡ Idle → c .depth ≡ Dead
+pub to-idle : (c : Core) (l : Location) (k : ℕ) (t : JumpTarget) (cl ll : ℕ) (marks : List ℕ)
+    → toPlanOf c l k t cl ll marks ≡ Idle → c .depth ≡ Dead
 unfolding toPlanOf
 to-idle c l k t cl ll marks e = line-idle (toAsked c l k t (targetMark t (c .marks) marks) cl ll (length marks)) e
 

@@ -44,8 +44,10 @@ use Rattle.builder.specs.Names.{withNames, registerNamesOf, registerNameOf, bui
 
 module _ (b : Builder) (r : Refusal) where
   module _ (k name : ℕ) (o : Operand) (ns code locs : List ℕ) where
-    emit-by : (p : Plan) → outcomeBy b (commitOf p (b .core) (b .location) (encode k o ns) code locs) .answer ≡ Refused r
-        → (commitOf p (b .core) (b .location) (encode k o ns) code locs .code ≡ code) × (commitOf p (b .core) (b .location) (encode k o ns) code locs .locations ≡ locs)
+    emit-by : (p : Plan) → outcomeBy b (commitOf p (b .core) (b .location) (encode k o ns) code locs) .answer
+        ≡ Refused r
+        → (commitOf p (b .core) (b .location) (encode k o ns) code locs .code ≡ code)
+        × (commitOf p (b .core) (b .location) (encode k o ns) code locs .locations ≡ locs)
     emit-by Idle e = (refl, refl)
     emit-by (Refuse q) e = (refl, refl)
     emit-by (Go a w s) e = (cc, cc)
@@ -57,18 +59,21 @@ module _ (b : Builder) (r : Refusal) where
 
   module _ (k : ℕ) (code locs marks : List ℕ) where
     jump-by : (p : Plan) → commitJump p b k code locs marks .answer ≡ J.Refused r
-        → (commitJump p b k code locs marks .code ≡ code) × (commitJump p b k code locs marks .locations ≡ locs) × (commitJump p b k code locs marks .marks ≡ marks)
+        → (commitJump p b k code locs marks .code ≡ code) × (commitJump p b k code locs marks .locations ≡ locs)
+        × (commitJump p b k code locs marks .marks ≡ marks)
     jump-by Idle e = (refl, refl, refl)
     jump-by (Refuse q) e = (refl, refl, refl)
     jump-by (Go a w s) e = (cc, cc, cc)
 
     pub jump-refused : emitJumpOf b k code locs marks .answer ≡ J.Refused r
-        → (emitJumpOf b k code locs marks .code ≡ code) × (emitJumpOf b k code locs marks .locations ≡ locs) × (emitJumpOf b k code locs marks .marks ≡ marks)
+        → (emitJumpOf b k code locs marks .code ≡ code) × (emitJumpOf b k code locs marks .locations ≡ locs)
+        × (emitJumpOf b k code locs marks .marks ≡ marks)
     unfolding emitJumpOf
     jump-refused e = jump-by (jumpPlanOf (b .core) (b .location) k (length code) (length locs) (length marks)) e
 
     to-by : (p : Plan) → outcomeBy b (commitTo p (b .core) (b .location) k code locs) .answer ≡ Refused r
-        → (commitTo p (b .core) (b .location) k code locs .code ≡ code) × (commitTo p (b .core) (b .location) k code locs .locations ≡ locs)
+        → (commitTo p (b .core) (b .location) k code locs .code ≡ code)
+        × (commitTo p (b .core) (b .location) k code locs .locations ≡ locs)
     to-by Idle e = (refl, refl)
     to-by (Refuse q) e = (refl, refl)
     to-by (Go a w s) e = (cc, cc)
@@ -85,7 +90,8 @@ module _ (b : Builder) (r : Refusal) where
     patch-by (Patching.Refuse q) e = (refl, refl)
     patch-by (Patching.Go a w o) e = (cc, cc)
 
-    pub patch-refused : patchJumpOf b l code marks .answer ≡ Refused r → (patchJumpOf b l code marks .code ≡ code) × (patchJumpOf b l code marks .marks ≡ marks)
+    pub patch-refused : patchJumpOf b l code marks .answer ≡ Refused r
+        → (patchJumpOf b l code marks .code ≡ code) × (patchJumpOf b l code marks .marks ≡ marks)
     unfolding patchJumpOf
     patch-refused e = patch-by (patchPlanOf (b .core) l (length code) marks) e
 
@@ -102,7 +108,8 @@ module _ (b : Builder) (r : Refusal) (marks : List ℕ) where
   pub target-refused : MarksKept (targetOf b marks)
   unfolding targetOf
   target-refused =
-      either MarksKept (countsOf b (within markCells (b .core .marks) (length marks))) _ _ (target-at (b .core .depth)) (λ e. refl)
+      either MarksKept (countsOf b (within markCells (b .core .marks) (length marks))) _ _ (target-at (b .core .depth))
+      (λ e. refl)
 
 -- a call with one table
 abbrev CellsKept : Refusal → List ℕ → Kept → Type 0
@@ -127,9 +134,11 @@ module _ (r : Refusal) (cells : List ℕ) where
 
     pub region-refused : (d : ℕ) → CellsKept r cells (regionOf b d cells)
     unfolding regionOf
-    region-refused d = passing (countsOf b (within startCells (b .starts) (length cells))) Unsound _ (region-at (b .core .depth) d)
+    region-refused d = passing (countsOf b (within startCells (b .starts) (length cells))) Unsound
+        _ (region-at (b .core .depth) d)
 
-    pub exception-refused : (start end handler depth count : ℕ) (kind : HandlerKind) → CellsKept r cells (addExceptionOf b start end handler depth count kind cells)
+    pub exception-refused : (start end handler depth count : ℕ) (kind : HandlerKind)
+        → CellsKept r cells (addExceptionOf b start end handler depth count kind cells)
     unfolding addExceptionOf
     exception-refused start end handler depth count kind =
         passing (countsOf b (within exceptionCells (b .exceptions) (length cells))) Unsound _
@@ -153,7 +162,8 @@ module _ (r : Refusal) (cells : List ℕ) where
     pub build-refused : (name : ℕ) (marks : List ℕ) → CellsKept r cells (buildOf b name cells marks)
     unfolding buildOf
     build-refused name marks =
-        passing (countsOf b (leb (b .names) (length cells) && within markCells (b .core .marks) (length marks))) Unsound _
+        passing (countsOf b (leb (b .names) (length cells) && within markCells (b .core .marks) (length marks)))
+        Unsound _
         (either (CellsKept r cells) (anyOpen (b .core .marks) marks) _ _ (λ e. refl) (accepting _ _))
 
 -- other calls: what the view looks at stays
@@ -166,7 +176,8 @@ module _ (b : Builder) (cells : List ℕ) where
   unfolding SameCore
   refusing q n e = (cc, cc)
 
-  staying : (m : Builder) (new : List ℕ) → m .core ≡ b .core → m .starts ≡ b .starts → SameCore b (kept (Accepted m) new)
+  staying : (m : Builder) (new : List ℕ) → m .core ≡ b .core → m .starts ≡ b .starts
+      → SameCore b (kept (Accepted m) new)
   unfolding SameCore
   staying m new p q n e =
       let h : m ≡ n = cc in
@@ -175,7 +186,8 @@ module _ (b : Builder) (cells : List ℕ) where
   over : (t : Bool) (q : Refusal) (k : Kept) → SameCore b k → SameCore b (unless t q cells k)
   over t q k h = either (SameCore b) t k (kept (Refused q) cells) h (refusing q)
 
-  pub exception-same : (start end handler depth count : ℕ) (kind : HandlerKind) → SameCore b (addExceptionOf b start end handler depth count kind cells)
+  pub exception-same : (start end handler depth count : ℕ) (kind : HandlerKind)
+      → SameCore b (addExceptionOf b start end handler depth count kind cells)
   unfolding addExceptionOf
   exception-same start end handler depth count kind =
       over (countsOf b (within exceptionCells (b .exceptions) (length cells))) Unsound _
@@ -220,7 +232,8 @@ module _ (b : Builder) (value : ℕ) (cells : List ℕ) where
   abbrev ConstSame : AddedKept → Type 0
   ConstSame k = (n : Builder) (i : ℕ) → k .answer ≡ N.Made n i → (n .core ≡ b .core) × (n .starts ≡ b .starts)
 
-  made-same : (m n : Builder) (j i : ℕ) → m .core ≡ b .core → m .starts ≡ b .starts → N.Made m j ≡ N.Made n i → (n .core ≡ b .core) × (n .starts ≡ b .starts)
+  made-same : (m n : Builder) (j i : ℕ) → m .core ≡ b .core → m .starts ≡ b .starts → N.Made m j ≡ N.Made n i
+      → (n .core ≡ b .core) × (n .starts ≡ b .starts)
   made-same m n j i p q e =
       let h : m ≡ n = cc in
       (rw h at p, rw h at q)

@@ -45,7 +45,8 @@ use Rattle.demand.proofs.Laws.{Laws}
 -- depths
 
 module _ (low : Refusal) (d e : ℕ) where
-  by-tests : (s t : Bool) (x : ℕ) (p q : Refusal) → leb x deepest ≡ t → cond s (cond t (A.Depth x) (A.Refused p)) (A.Refused q) ≡ A.Depth e → e ≤ 65535
+  by-tests : (s t : Bool) (x : ℕ) (p q : Refusal) → leb x deepest ≡ t
+      → cond s (cond t (A.Depth x) (A.Refused p)) (A.Refused q) ≡ A.Depth e → e ≤ 65535
   by-tests true true x p q h k = let z : x ≡ e = cc in omega (arith, leb-true x deepest h)
   by-tests true false x p q h k = clash cc
   by-tests false t x p q h k = clash cc
@@ -56,7 +57,9 @@ module _ (low : Refusal) (d e : ℕ) where
   landing-small (E.Refused r) h = clash cc
 
   -- the depth does not hang on the refusal that is given below 0
-  any-low : (s t : Bool) (x : ℕ) (p q q′ : Refusal) → cond s (cond t (A.Depth x) (A.Refused p)) (A.Refused q) ≡ A.Depth e → cond s (cond t (A.Depth x) (A.Refused p)) (A.Refused q′) ≡ A.Depth e
+  any-low : (s t : Bool) (x : ℕ) (p q q′ : Refusal)
+      → cond s (cond t (A.Depth x) (A.Refused p)) (A.Refused q) ≡ A.Depth e
+      → cond s (cond t (A.Depth x) (A.Refused p)) (A.Refused q′) ≡ A.Depth e
   any-low true t x p q q′ h = h
   any-low false t x p q q′ h = clash cc
 
@@ -97,7 +100,8 @@ formed-known {k} {o} f = shape-known k (operandShape o) (f .shape)
 
 pub read-formed : (at : ℕ) (i : Instruction) → Formed (i .opcode) (i .operand) (i .names) → (r : List ℕ)
     → instructionsFrom lastOpcode at (isa .bytes i ++ r)
-    ≡ before (record { offset = at; what = i; size = length (isa .bytes i) }) (instructionsFrom lastOpcode (at + length (isa .bytes i)) r)
+    ≡ before (record { offset = at; what = i; size = length (isa .bytes i) })
+    (instructionsFrom lastOpcode (at + length (isa .bytes i)) r)
 read-formed at i f r = reads-encoded lastOpcode at i r (formed-known f) f
 
 -- a jump's displacement

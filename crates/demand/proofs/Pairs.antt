@@ -37,7 +37,11 @@ cells-tab zero l h = refl
 cells-tab (suc n) l h =
     let e : suc n * startCells ≡ n * startCells + 2 = omega arith in
     ap (λ (m : ℕ). take m l) e ∙ take-add (n * startCells) 2 l
-    ∙ rw (two-at (n * startCells) l (omega arith), cells-tab n l (omega arith), cells-append (tab n (startAt l)) (startAt l n ∷ [])) refl
+    ∙ rw (
+      two-at (n * startCells) l (omega arith),
+      cells-tab n l (omega arith),
+      cells-append (tab n (startAt l)) (startAt l n ∷ []),
+    ) refl
 
 -- a start is a pair
 

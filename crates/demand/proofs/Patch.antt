@@ -42,12 +42,14 @@ module _ (I : Isa) (k t : ℕ) where
   chain-resolve o (r ∷ rs) n h = (h .0, rw (aim-size (r .what)) (chain-resolve (o + size I (r .what)) rs n (h .1)))
 
   -- a jump that still waits waited before, and for another label
-  aim-open : (w : What I) (j : I .Jump) (l : ℕ) → settledAim I k t w ≡ leap j (waits l) → (w ≡ leap j (waits l)) × (l ≢ k)
+  aim-open : (w : What I) (j : I .Jump) (l : ℕ) → settledAim I k t w ≡ leap j (waits l)
+      → (w ≡ leap j (waits l)) × (l ≢ k)
   aim-open (one p) j l h = clash cc
   aim-open (leap i (to u)) j l h = clash cc
   aim-open (leap i (waits m)) j l h = go (eqb m k) refl h
     where
-      go : (x : Bool) → eqb m k ≡ x → _≡_ {A = What I} (leap i (cond x (to t) (waits m))) (leap j (waits l)) → (_≡_ {A = What I} (leap i (waits m)) (leap j (waits l))) × (l ≢ k)
+      go : (x : Bool) → eqb m k ≡ x → _≡_ {A = What I} (leap i (cond x (to t) (waits m))) (leap j (waits l))
+          → (_≡_ {A = What I} (leap i (waits m)) (leap j (waits l))) × (l ≢ k)
       go true e q = clash cc
       go false e q = (q, λ c. eqb-false m k e (let y : l ≡ m = cc in cc))
 
@@ -74,7 +76,8 @@ module _ (I : Isa) (L : Laws I) (b : Book I) (g : Good I L b) (k o d : ℕ) (mk 
       deps p e (tip q f) = let z = meets e f in tip q (cc)
 
   -- the label's jump stands at o and takes the depth d
-  waiting : (r : Row I) (j : I .Jump) → Mem r (b .rows) → r .what ≡ leap j (waits k) → (r .offset ≡ o) × (I .taken j (r .depth) ≡ some d)
+  waiting : (r : Row I) (j : I .Jump) → Mem r (b .rows) → r .what ≡ leap j (waits k)
+      → (r .offset ≡ o) × (I .taken j (r .depth) ≡ some d)
   waiting r j m h = let q = g .opens r j k m h in let a = q .1 in let c = q .2 in let f : q .0 ≡ d = cc in (cc, rw f at c)
 
   ok-resolve : (p e : ℕ) (w : What I) → Mem (record { offset = p; depth = e; what = w }) (b .rows)
@@ -84,7 +87,8 @@ module _ (I : Isa) (L : Laws I) (b : Book I) (g : Good I L b) (k o d : ℕ) (mk 
   ok-resolve p e (leap j (to u)) m x = x
   ok-resolve p e (leap j (waits l)) m x = go (eqb l k) refl
     where
-      go : (y : Bool) → eqb l k ≡ y → RowOK I L (patched I b k o d) (record { offset = p; depth = e; what = leap j (cond y (to (b .len)) (waits l)) })
+      go : (y : Bool) → eqb l k ≡ y → RowOK I L (patched I b k o d)
+          (record { offset = p; depth = e; what = leap j (cond y (to (b .len)) (waits l)) })
       go false h = x
       go true h = let lk = eqb-true l k h in
           let wt = waiting (record { offset = p; depth = e; what = leap j (waits l) }) j m (rw lk) in
@@ -127,8 +131,10 @@ module _ (I : Isa) (L : Laws I) (b : Book I) (g : Good I L b) (k o d : ℕ) (mk 
       other : (l : ℕ) → l ≢ k → getElem? (set (b .marks) k (Patched o d)) l ≡ getElem? (b .marks) l
       other l n = nth-set-other (b .marks) k l (Patched o d) n
 
-      opens : (r : Row I) (j : I .Jump) (l : ℕ) → Mem r (map (resolve I k (b .len)) (b .rows)) → r .what ≡ leap j (waits l)
-          → (e : ℕ) × (getElem? (set (b .marks) k (Patched o d)) l ≡ some (Open (r .offset) e)) × (I .taken j (r .depth) ≡ some e)
+      opens : (r : Row I) (j : I .Jump) (l : ℕ) → Mem r (map (resolve I k (b .len)) (b .rows))
+          → r .what ≡ leap j (waits l)
+          → (e : ℕ) × (getElem? (set (b .marks) k (Patched o d)) l ≡ some (Open (r .offset) e))
+          × (I .taken j (r .depth) ≡ some e)
       opens r j l m h =
           let q = mem-map-inv (resolve I k (b .len)) (b .rows) m in
           let h′ : settledAim I k (b .len) (q .0 .what) ≡ leap j (waits l) = rw (q .2) at h in
@@ -136,19 +142,22 @@ module _ (I : Isa) (L : Laws I) (b : Book I) (g : Good I L b) (k o d : ℕ) (mk 
           let c = g .opens (q .0) j l (q .1) (a .0) in
           rw (q .2) (c .0, other l (a .1) ∙ c .1, c .2)
 
-      apart : (l p e : ℕ) → (m : Mark) → (m ≡ Patched o d → ⊥) → getElem? (set (b .marks) k (Patched o d)) l ≡ some m → l ≢ k
+      apart : (l p e : ℕ) → (m : Mark) → (m ≡ Patched o d → ⊥) → getElem? (set (b .marks) k (Patched o d)) l ≡ some m
+          → l ≢ k
       apart l p e m ne h c =
           let s = nth-set-same (b .marks) k (Patched o d) mk in
           let h′ : getElem? (set (b .marks) k (Patched o d)) k ≡ some m = rw c at h in ne (cc)
 
       labels : (l p e : ℕ) → getElem? (set (b .marks) k (Patched o d)) l ≡ some (Open p e)
-          → (r : Row I) × (j : I .Jump) × Mem r (map (resolve I k (b .len)) (b .rows)) × (r .what ≡ leap j (waits l)) × (r .offset ≡ p)
+          → (r : Row I) × (j : I .Jump) × Mem r (map (resolve I k (b .len)) (b .rows)) × (r .what ≡ leap j (waits l))
+          × (r .offset ≡ p)
       labels l p e h =
           let n = apart l p e (Open p e) (λ c. clash cc) h in
           let q = g .labels l p e (sym (other l n) ∙ h) in
           (resolve I k (b .len) (q .0), q .1, mem-map (resolve I k (b .len)) (q .2), rw (q .3, ne-eqb l k n), q .4)
 
-      spots : (l p e : ℕ) → getElem? (set (b .marks) k (Patched o d)) l ≡ some (Target p e) → Dep I (patched I b k o d) p e
+      spots : (l p e : ℕ) → getElem? (set (b .marks) k (Patched o d)) l ≡ some (Target p e)
+          → Dep I (patched I b k o d) p e
       spots l p e h =
           let n = apart l p e (Target p e) (λ c. clash cc) h in
           moves-patched .deps p e (g .spots l p e (sym (other l n) ∙ h))

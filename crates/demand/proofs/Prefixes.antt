@@ -1,7 +1,8 @@
 -- No instruction's bytes begin another's: specs/Prefixes.antt has the statements.
 -- Assumes nothing.
 use mathlib.Core.Path.{_≡_, refl, sym, ap, _∙_}
-use mathlib.Core.List.{List, [], _∷_, _++_, append-nil, head-eq-of-cons-eq, List·Memᴰ·head as mhead, List·Memᴰ·tail as mtail}
+use mathlib.Core.List.{List, [], _∷_, _++_, append-nil, head-eq-of-cons-eq, List·Memᴰ·head as mhead}
+use mathlib.Core.List.{List·Memᴰ·tail as mtail}
 use Prim.Native.Nat.{ℕ}
 use native.Mathlib.Omega.{arith}
 use lib.ListN.{length, drop, length-append}
@@ -13,13 +14,17 @@ use Rattle.demand.specs.Prefixes.{WellFormed, allBytes, PrefixFree, OneL
 use Rattle.demand.proofs.Machining.{read-formed, encode-some}
 
 -- code begins with one instruction only
-same-first : (i j : Instruction) (r q : List ℕ) → WellFormed i → WellFormed j → isa .bytes i ++ r ≡ isa .bytes j ++ q → (i ≡ j) × (r ≡ q)
+same-first : (i j : Instruction) (r q : List ℕ) → WellFormed i → WellFormed j → isa .bytes i ++ r ≡ isa .bytes j ++ q
+    → (i ≡ j) × (r ≡ q)
 same-first i j r q f g e =
     let same = sym (read-formed 0 i f r) ∙ ap (instructionsFrom lastOpcode 0) e ∙ read-formed 0 j g q in
     let spot = head-eq-of-cons-eq (ap (λ (read : Read). read .spots) same) in
     let k : i ≡ j = ap (λ (x : Spot). x .what) spot in
-    let n : length (isa .bytes j) ≡ length (isa .bytes i) = sym (ap (λ (x : Spot). x .size) spot) in
-    (k, sym (drop-at (isa .bytes i) r (length (isa .bytes i)) refl) ∙ ap (drop (length (isa .bytes i))) e ∙ drop-at (isa .bytes j) q (length (isa .bytes i)) n)
+    let n : length (isa .bytes j) ≡ length (isa .bytes i) = sym (ap (λ (x : Spot). x .size) spot) in (
+      k,
+      sym (drop-at (isa .bytes i) r (length (isa .bytes i)) refl) ∙ ap (drop (length (isa .bytes i))) e
+          ∙ drop-at (isa .bytes j) q (length (isa .bytes i)) n,
+    )
 
 pub prefix-free : PrefixFree
 prefix-free i j r f g e = same-first i j r [] f g (e ∙ sym (append-nil (isa .bytes j)))

@@ -34,7 +34,9 @@ use Rattle.builder.specs.declared.Targeted.{Targeted}
 use Rattle.builder.specs.declared.Targeted.the-variants as G
 use Rattle.demand.specs.History.{no}
 use Rattle.demand.specs.Calls.{emit′, emit-u8, emit-i8, emit-u8-u8, emit-u16, emit-u16-u16, emit-u16-u8, emit-u16-u8-u8, emit-call-builtin-function, emit-call-builtin-type}
-use Rattle.demand.specs.Calls.{emit-call-function-kw, emit-call-attr-kw, emit-raise-unbound-local, emit-load-global-callable, emit-name-op, emit-load-local, emit-store-local, emit-numbered}
+use Rattle.demand.specs.Calls.{emit-call-function-kw, emit-call-attr-kw, emit-raise-unbound-local}
+use Rattle.demand.specs.Calls.{emit-load-global-callable, emit-name-op, emit-load-local, emit-store-local}
+use Rattle.demand.specs.Calls.{emit-numbered}
 use Rattle.demand.specs.Calls.{emit-jump, emit-jump-to, current-jump-target, patch-jump, new-code-region, add-const, add-exception-entry, register-local-names, register-local-name, build}
 use Rattle.demand.specs.Calls.{set-location, current-offset, current-position, stack-depth, is-dead}
 use Rattle.demand.specs.Calls.{PublicCall}
@@ -43,7 +45,9 @@ use Rattle.demand.specs.Refused.{RefusedSame, NewRefused}
 use Rattle.demand.proofs.Model.{Turn, emits, step}
 use Rattle.demand.proofs.Contracts.{made-step}
 use Rattle.demand.proofs.Numbering.{numbered-is}
-use Rattle.demand.proofs.Keeping.{emit-refused, jump-refused, to-refused, patch-refused, target-refused, region-refused, exception-refused, names-refused, name-refused, build-refused, const-refused}
+use Rattle.demand.proofs.Keeping.{emit-refused, jump-refused, to-refused, patch-refused, target-refused}
+use Rattle.demand.proofs.Keeping.{region-refused, exception-refused, names-refused, name-refused, build-refused}
+use Rattle.demand.proofs.Keeping.{const-refused}
 use Rattle.demand.proofs.Keeping.{new-kept}
 
 module _ (r : Refusal) where
@@ -64,12 +68,15 @@ module _ (r : Refusal) where
   by-const (N.Refused q) e = cc
 
   module _ (w : World) where
-    emit-same : (x : Outcome) → given (x .answer) ≡ no r → (x .answer ≡ R.Refused r → (x .code ≡ w .code) × (x .locations ≡ w .locations)) → emits w x .left ≡ w
+    emit-same : (x : Outcome) → given (x .answer) ≡ no r
+        → (x .answer ≡ R.Refused r → (x .code ≡ w .code) × (x .locations ≡ w .locations)) → emits w x .left ≡ w
     emit-same x e f = let a = by-answer (x .answer) e in rw (a, f a .0, f a .1) refl
 
-    emission-same : (k name : ℕ) (o : Operand) (ns : List ℕ) → given (emitNamed (w .state) k name o ns (w .code) (w .locations) .answer) ≡ no r
+    emission-same : (k name : ℕ) (o : Operand) (ns : List ℕ)
+        → given (emitNamed (w .state) k name o ns (w .code) (w .locations) .answer) ≡ no r
         → emits w (emitNamed (w .state) k name o ns (w .code) (w .locations)) .left ≡ w
-    emission-same k name o ns e = emit-same (emitNamed (w .state) k name o ns (w .code) (w .locations)) e (emit-refused (w .state) r k name o ns (w .code) (w .locations))
+    emission-same k name o ns e = emit-same (emitNamed (w .state) k name o ns (w .code) (w .locations)) e
+        (emit-refused (w .state) r k name o ns (w .code) (w .locations))
 
     numbered-same : (ns : List ℕ) (i : Instruction)
         → given (emitInstruction i (w .state) ns (w .code) (w .locations) .answer) ≡ no r
@@ -104,7 +111,8 @@ module _ (r : Refusal) where
         let a = by-jump (emitJumpOf (w .state) k (w .code) (w .locations) (w .marks) .answer) e in
         let q = jump-refused (w .state) r k (w .code) (w .locations) (w .marks) a in
         rw (a, q .0, q .1, q .2) refl
-    step-same (emit-jump-to k t) e = emit-same (emitJumpToOf (w .state) k t (w .code) (w .locations) (w .marks)) e (to-refused (w .state) r k (w .code) (w .locations) (w .marks) t)
+    step-same (emit-jump-to k t) e = emit-same (emitJumpToOf (w .state) k t (w .code) (w .locations) (w .marks)) e
+        (to-refused (w .state) r k (w .code) (w .locations) (w .marks) t)
     step-same current-jump-target e =
         let a = by-target (targetOf (w .state) (w .marks) .answer) e in
         rw (a, target-refused (w .state) r (w .marks) a) refl

@@ -29,20 +29,24 @@ use Rattle.builder.specs.declared.Builder.{Builder}
 use Rattle.builder.specs.declared.Location.the-variants.{Set}
 use Rattle.demand.specs.History.{Call, emit, other, Given, no, ok}
 use Rattle.demand.specs.Calls.{emit′, emit-u8, emit-i8, emit-u8-u8, emit-u16, emit-u16-u16, emit-u16-u8, emit-u16-u8-u8, emit-call-builtin-function, emit-call-builtin-type}
-use Rattle.demand.specs.Calls.{emit-call-function-kw, emit-call-attr-kw, emit-raise-unbound-local, emit-load-global-callable, emit-name-op, emit-load-local, emit-store-local, emit-numbered}
+use Rattle.demand.specs.Calls.{emit-call-function-kw, emit-call-attr-kw, emit-raise-unbound-local}
+use Rattle.demand.specs.Calls.{emit-load-global-callable, emit-name-op, emit-load-local, emit-store-local}
+use Rattle.demand.specs.Calls.{emit-numbered}
 use Rattle.demand.specs.Calls.{emit-jump, emit-jump-to, current-jump-target, patch-jump, new-code-region, add-const, add-exception-entry, register-local-names, register-local-name, build}
 use Rattle.demand.specs.Calls.{set-location, current-offset, current-position, stack-depth, is-dead}
 use Rattle.demand.specs.Calls.{PublicCall, kindOf}
 use Rattle.demand.specs.World.{World, world, given, after, givenConst, afterConst, Run, Taken, none, then}
 use Rattle.demand.proofs.Model.{Turn, turn, emits, step}
 use Rattle.demand.proofs.Contracts.{made-step}
-use Rattle.demand.proofs.Numbering.{kindBy, load-kind, numbered-is, numbered-kind, numbered-sane, sane-load, sane-store, store-kind}
+use Rattle.demand.proofs.Numbering.{kindBy, load-kind, numbered-is, numbered-kind, numbered-sane, sane-load}
+use Rattle.demand.proofs.Numbering.{sane-store, store-kind}
 use Rattle.demand.proofs.View.{View, viewOf, Moved, refused, idle}
 use Rattle.demand.proofs.Views.{emit-moves, jump-moves, to-moves, patch-moves, target-moves, region-moves}
 use Rattle.demand.proofs.Held.{emit-held, jump-held, to-held, patch-held}
 use Rattle.demand.proofs.Keeping.{SameCore}
 use Rattle.demand.proofs.Keeping.{exception-same, names-same, name-same, build-same, const-same}
-use Rattle.demand.proofs.Within.{emit-starts, to-starts, jump-starts, patch-starts, target-keeps, region-keeps, same-after, const-after}
+use Rattle.demand.proofs.Within.{emit-starts, to-starts, jump-starts, patch-starts, target-keeps, region-keeps}
+use Rattle.demand.proofs.Within.{same-after, const-after}
 use Rattle.demand.proofs.Ties.{Tied, Sane, moved-tied}
 
 -- what the calls emit: signed numbers in their range, and no jumps
@@ -105,7 +109,8 @@ const-idle (N.Refused r) v = refused
 
 module _ (w : World) (h : Within w) where
   -- an emitting call
-  emission : (k name : ℕ) (o : Operand) (ns : List ℕ) → Moving w (emit k o ns) (emits w (emitNamed (w .state) k name o ns (w .code) (w .locations)))
+  emission : (k name : ℕ) (o : Operand) (ns : List ℕ)
+      → Moving w (emit k o ns) (emits w (emitNamed (w .state) k name o ns (w .code) (w .locations)))
   emission k name o ns = record {
     moves = emit-moves (w .state) k name o ns (w .code) (w .locations) (w .marks) (w .starts);
     within = record {
@@ -115,21 +120,26 @@ module _ (w : World) (h : Within w) where
   }
 
   -- a call that leaves core, code, marks and starts
-  stays : (b : Builder) (a : Given) (l e k ns : List ℕ) → (b .core ≡ w .state .core) × (b .starts ≡ w .state .starts) → ((v : View) → Moved v other a v)
+  stays : (b : Builder) (a : Given) (l e k ns : List ℕ) → (b .core ≡ w .state .core) × (b .starts ≡ w .state .starts)
+      → ((v : View) → Moved v other a v)
       → Moving w other (turn (world b (w .code) l e k ns (w .marks) (w .starts)) a)
   stays b a l e k ns q f = record {
     moves = rw (q .0, q .1) (f (view w));
     within = record { code = rw (q .0) (h .code); starts = rw (q .1) (h .starts) };
   }
 
-  keeps : (x : Kept) (l e k ns : List ℕ) → SameCore (w .state) x → Moving w other (turn (world (after (x .answer) (w .state)) (w .code) l e k ns (w .marks) (w .starts)) (given (x .answer)))
-  keeps x l e k ns s = stays (after (x .answer) (w .state)) (given (x .answer)) l e k ns (same-after (w .state) x s) (given-idle (x .answer))
+  keeps : (x : Kept) (l e k ns : List ℕ) → SameCore (w .state) x
+      → Moving w other (turn (world (after (x .answer) (w .state)) (w .code) l e k ns (w .marks) (w .starts))
+      (given (x .answer)))
+  keeps x l e k ns s = stays (after (x .answer) (w .state)) (given (x .answer)) l e k ns (same-after (w .state) x s)
+      (given-idle (x .answer))
 
   -- the instruction that a number comes to
   numbered : (ns : List ℕ) (i : Instruction)
       → Moving w (kindBy ns i) (emits w (emitInstruction i (w .state) ns (w .code) (w .locations)))
   numbered ns I.Nothing =
-      stays (w .state) (no WrongShape) (w .locations) (w .exceptions) (w .constants) (w .names) (refl, refl) (λ v. refused)
+      stays (w .state) (no WrongShape) (w .locations) (w .exceptions) (w .constants) (w .names) (refl, refl)
+      (λ v. refused)
   numbered ns (I.Is k name o) = emission k name o ns
 
   pub moving : (c : PublicCall) → Moving w (kindOf c) (step c w)
@@ -188,11 +198,13 @@ module _ (w : World) (h : Within w) where
       }
   moving (add-const v) =
       let x = addConstOf (w .state) v (w .constants) in
-      stays (afterConst (x .answer) (w .state)) (givenConst (x .answer)) (w .locations) (w .exceptions) (x .cells) (w .names)
+      stays (afterConst (x .answer) (w .state)) (givenConst (x .answer)) (w .locations) (w .exceptions) (x .cells)
+      (w .names)
       (const-after (w .state) x (const-same (w .state) v (w .constants))) (const-idle (x .answer))
   moving (add-exception-entry start end handler d n kind) =
       let x = addExceptionOf (w .state) start end handler d n kind (w .exceptions) in
-      keeps x (w .locations) (x .cells) (w .constants) (w .names) (exception-same (w .state) (w .exceptions) start end handler d n kind)
+      keeps x (w .locations) (x .cells) (w .constants) (w .names)
+      (exception-same (w .state) (w .exceptions) start end handler d n kind)
   moving (register-local-names ns) =
       let x = registerNamesOf (w .state) ns (w .names) in
       keeps x (w .locations) (w .exceptions) (w .constants) (x .cells) (names-same (w .state) (w .names) ns)
@@ -201,11 +213,16 @@ module _ (w : World) (h : Within w) where
       keeps x (w .locations) (w .exceptions) (w .constants) (x .cells) (name-same (w .state) (w .names) slot name)
   moving (build fill) =
       let x = buildOf (w .state) fill (w .names) (w .marks) in
-      keeps x (w .locations) (w .exceptions) (w .constants) (x .cells) (build-same (w .state) (w .names) fill (w .marks))
-  moving (set-location r f) = stays (withLocation (w .state) (Set r f)) ok (w .locations) (w .exceptions) (w .constants) (w .names) (refl, refl) (λ v. idle)
-  moving current-offset = stays (w .state) ok (w .locations) (w .exceptions) (w .constants) (w .names) (refl, refl) (λ v. idle)
-  moving current-position = stays (w .state) ok (w .locations) (w .exceptions) (w .constants) (w .names) (refl, refl) (λ v. idle)
-  moving stack-depth = stays (w .state) ok (w .locations) (w .exceptions) (w .constants) (w .names) (refl, refl) (λ v. idle)
+      keeps x (w .locations) (w .exceptions) (w .constants) (x .cells)
+      (build-same (w .state) (w .names) fill (w .marks))
+  moving (set-location r f) = stays (withLocation (w .state) (Set r f)) ok (w .locations) (w .exceptions)
+      (w .constants) (w .names) (refl, refl) (λ v. idle)
+  moving current-offset =
+      stays (w .state) ok (w .locations) (w .exceptions) (w .constants) (w .names) (refl, refl) (λ v. idle)
+  moving current-position =
+      stays (w .state) ok (w .locations) (w .exceptions) (w .constants) (w .names) (refl, refl) (λ v. idle)
+  moving stack-depth = stays (w .state) ok (w .locations) (w .exceptions) (w .constants) (w .names) (refl, refl)
+      (λ v. idle)
   moving is-dead = stays (w .state) ok (w .locations) (w .exceptions) (w .constants) (w .names) (refl, refl) (λ v. idle)
 
 -- so calls keep the history tied to the view
@@ -215,5 +232,6 @@ pub taken-tied : (x y : Run) → Taken x y → Within (x .world) → Tied (view 
 taken-tied x y none h t = (h, t)
 taken-tied x z (then {y} c g w′ before m) h t =
     let q = taken-tied x y before h t in
-    let v : Moving (y .world) (kindOf c) (turn w′ g) = rw (made-step c (y .world) w′ g m) (moving (y .world) (q .0) c) in
+    let v : Moving (y .world) (kindOf c) (turn w′ g) =
+    rw (made-step c (y .world) w′ g m) (moving (y .world) (q .0) c) in
     (v .within, moved-tied (y .history) (q .1) (sane c) (v .moves))

@@ -12,7 +12,8 @@ use native.Mathlib.Numerals.{add-one}
 use native.Mathlib.Omega.{arith}
 use lib.Dec.{eqb}
 use lib.ListN.{length, take, drop, getD, set, getElem?, length-append, List·getD-append}
-use lib.Seq.{set-at, set-append-left, getD-set-same, getD-set-other, getD-append-add, getD-take, length-take-le, sets-eq, take-set-lt}
+use lib.Seq.{set-at, set-append-left, getD-set-same, getD-set-other, getD-append-add, getD-take, length-take-le}
+use lib.Seq.{sets-eq, take-set-lt}
 use Rattle.code.specs.Bytes.{wordBytes}
 use Rattle.builder.specs.declared.marks.Mark.the-variants.{Absent, Open, Patched, Target}
 use Rattle.code.specs.Tables.{markCells, startCells, put}
@@ -42,10 +43,12 @@ module _ {A : Type 0} where
       go (no e) ih = nth-left (tab n f) (f n ∷ []) k (ih (omega arith))
   tab-nth zero f k l = absurd (omega arith)
 
-  pub tab-set : (n : ℕ) (f g : ℕ → A) (k : ℕ) (v : A) → k < n → g k ≡ v → ((i : ℕ) → i < n → i ≢ k → g i ≡ f i) → tab n g ≡ set (tab n f) k v
+  pub tab-set : (n : ℕ) (f g : ℕ → A) (k : ℕ) (v : A) → k < n → g k ≡ v → ((i : ℕ) → i < n → i ≢ k → g i ≡ f i)
+      → tab n g ≡ set (tab n f) k v
   unfolding tab
   tab-set zero f g k v l e h = absurd (omega arith)
-  tab-set (suc n) f g k v l e h = go (ℕ-discrete k n) (λ (q : k < n). tab-set n f g k v q e (λ i a b. h i (omega arith) b))
+  tab-set (suc n) f g k v l e h =
+      go (ℕ-discrete k n) (λ (q : k < n). tab-set n f g k v q e (λ i a b. h i (omega arith) b))
     where
       go : Dec (k ≡ n) → (k < n → tab n g ≡ set (tab n f) k v) → tab n g ++ (g n ∷ []) ≡ set (tab n f ++ (f n ∷ [])) k v
       go (yes q) ih =
@@ -71,7 +74,8 @@ module _ (at : ℕ) (xs l : List ℕ) (room : at + length xs ≤ length l) where
   pub put-below : (i : ℕ) → i < at → getD (put at xs l) i 0 ≡ getD l i 0
   unfolding put
   put-below i h =
-      List·getD-append (take at l ++ xs) (drop (at + length xs) l) 0 i (omega (arith, length-append (take at l) xs, head))
+      List·getD-append (take at l ++ xs) (drop (at + length xs) l) 0 i
+      (omega (arith, length-append (take at l) xs, head))
       ∙ List·getD-append (take at l) xs 0 i (omega (arith, head)) ∙ getD-take at l i 0 h
 
   pub put-inside : (j : ℕ) → j < length xs → getD (put at xs l) (at + j) 0 ≡ getD xs j 0
@@ -104,7 +108,8 @@ open-fields : (kind x y o d : ℕ) → markOf kind x y ≡ Open o d → (x ≡ o
 unfolding markOf
 open-fields kind x y o d e = go (eqb kind openKind) (eqb kind patchedKind) (eqb kind targetKind) e
   where
-    go : (p q r : Bool) → cond p (Open x y) (cond q (Patched x y) (cond r (Target x y) Absent)) ≡ Open o d → (x ≡ o) × (y ≡ d)
+    go : (p q r : Bool) → cond p (Open x y) (cond q (Patched x y) (cond r (Target x y) Absent)) ≡ Open o d
+        → (x ≡ o) × (y ≡ d)
     go true q r e = (cc, cc)
     go false true r e = (cc, cc)
     go false false true e = (cc, cc)
@@ -138,7 +143,8 @@ module _ (i o d : ℕ) (marks : List ℕ) (e : markAt marks i ≡ Open o d) wher
   pub marks-patch : (n : ℕ) → i < n → n * markCells ≤ length marks
       → tab n (markAt (set marks (i * markCells) patchedKind)) ≡ set (tab n (markAt marks)) i (Patched o d)
   marks-patch n l room =
-      tab-set n (markAt marks) (markAt (set marks (i * markCells) patchedKind)) i (Patched o d) l (patched-same (omega arith)) (λ k p q. patched-other k q)
+      tab-set n (markAt marks) (markAt (set marks (i * markCells) patchedKind)) i (Patched o d) l
+      (patched-same (omega arith)) (λ k p q. patched-other k q)
 
 -- starts
 

@@ -52,19 +52,25 @@ finish w w′ h i t B =
     let ec : finished w ≡ bytesOf isa (h .rows) = t .code in
     let es : regionStarts w ≡ cells (view w .starts) = cells-tab (w .state .starts) (w .starts) (i .starts) in
     let en : length (finished w) ≡ h .end = tied-end (view w) h t in
-    let short : h .end ≤ codeLimit = omega (arith, B .limit, length-take-le (w .state .core .code) (w .code) (i .code)) in
+    let short : h .end ≤ codeLimit =
+    omega (arith, B .limit, length-take-le (w .state .core .code) (w .code) (i .code)) in
     let accepts : (d d′ : List ℕ) (r : Checked) → length (finished w′) < length d
     → Promise lastOpcode (finished w′) (regionStarts w′) d d′ r → AcceptsAs w′ h r d′ =
-    rw (B .state, B .code, B .starts) (checked-at b g c (finished w) (regionStarts w) (length (finished w)) ec es en short) in
+    rw (B .state, B .code, B .starts)
+    (checked-at b g c (finished w) (regionStarts w) (length (finished w)) ec es en short) in
     record {
       unchanged = (B .state, B .code, B .starts);
       reads = rw (B .state, B .code, en, ec) (reads-rows (h .rows) (h .end) (g .chain) c);
       settled = settled w w′ h t B;
       starts = rw (B .state, B .starts) (es ∙ ap cells (t .starts));
-      before = λ r m. rw (B .state, B .code, en) (depth-row isa laws 0 (h .rows) (h .end) (w .state .core .depth) r (g .chain) m);
-      smallest = rw (B .state, B .code, B .starts) (smallest-at b g c (finished w) (regionStarts w) (length (finished w)) ec es en);
-      derived = rw (B .state, B .code, B .starts) (derived-at b g c (finished w) (regionStarts w) (length (finished w)) ec es en);
-      checks = λ κs code starts entry exit r k room. accepts (entry .now) (exit .now) r room (rw (code .holds, starts .holds) at k);
+      before = λ r m. rw (B .state, B .code, en)
+          (depth-row isa laws 0 (h .rows) (h .end) (w .state .core .depth) r (g .chain) m);
+      smallest = rw (B .state, B .code, B .starts)
+          (smallest-at b g c (finished w) (regionStarts w) (length (finished w)) ec es en);
+      derived = rw (B .state, B .code, B .starts)
+          (derived-at b g c (finished w) (regionStarts w) (length (finished w)) ec es en);
+      checks = λ κs code starts entry exit r k room. accepts (entry .now) (exit .now) r room
+          (rw (code .holds, starts .holds) at k);
       checks-built = λ κs code starts entry exit r k room.
           accepts (entry .now) (exit .now) r room (rw (B .state, B .code, B .starts) (
           built-promise (w .state) (w .code) (w .starts) (entry .now) (exit .now) r (i .code) (B .limit) (i .starts)

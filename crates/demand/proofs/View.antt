@@ -20,7 +20,8 @@ use Rattle.builder.specs.declared.JumpTarget.{JumpTarget}
 use Rattle.builder.specs.declared.JumpTarget.the-variants as T
 use Rattle.builder.specs.declared.marks.Mark.{Mark}
 use Rattle.builder.specs.declared.marks.Mark.the-variants.{Open, Patched, Target}
-use Rattle.demand.specs.History.{Call, emit, emitJump, emitJumpTo, patchJump, jumpTarget, newRegion, other, Given, no, ok, label, target}
+use Rattle.demand.specs.History.{Call, emit, emitJump, emitJumpTo, patchJump, jumpTarget, newRegion, other, Given}
+use Rattle.demand.specs.History.{no, ok, label, target}
 use Rattle.code.specs.Tables.{startCells, wordMax, jumpSize}
 use Rattle.builder.specs.Plan.{behind}
 use Rattle.builder.specs.Marks.{markAt, near, bits, meets}
@@ -60,21 +61,46 @@ pub data Moved (v : View) : Call → Given → View → Type 0 where
   dead-to : {k : ℕ} {t : JumpTarget} → v .depth ≡ Dead → Moved v (emitJumpTo k t) ok v
   dead-patch : Moved v (patchJump L.Dead) ok v
   dead-target : v .depth ≡ Dead → Moved v jumpTarget (target T.Dead) v
-  emitted : {k : ℕ} {o : Operand} {ns : List ℕ} (d e : ℕ) → v .depth ≡ Live d → namesIn o ≡ length ns → length ns ≤ 255 → afterOf d k o ≡ A.Depth e
-      → Moved v (emit k o ns) ok (record { code = v .code ++ encode k o ns; marks = v .marks; starts = v .starts; depth = behind k e })
+  emitted : {k : ℕ} {o : Operand} {ns : List ℕ} (d e : ℕ) → v .depth ≡ Live d → namesIn o ≡ length ns → length ns ≤ 255
+      → afterOf d k o ≡ A.Depth e
+      → Moved v (emit k o ns) ok
+      (record { code = v .code ++ encode k o ns; marks = v .marks; starts = v .starts; depth = behind k e })
   labelled : {k : ℕ} (d e t : ℕ) → v .depth ≡ Live d → afterOf d k unpatched ≡ A.Depth e → takenDepthOf d k ≡ A.Depth t
       → Moved v (emitJump k) (label (L.Row (length (v .marks))))
-      (record { code = v .code ++ encode k unpatched []; marks = v .marks ++ (Open (length (v .code)) t ∷ []); starts = v .starts; depth = behind k e })
-  jumped : {k : ℕ} (d e i o t : ℕ) → v .depth ≡ Live d → afterOf d k (jumpBy (bits (length (v .code)) o)) ≡ A.Depth e → takenDepthOf d k ≡ A.Depth t
+      (record {
+        code = v .code ++ encode k unpatched [];
+        marks = v .marks ++ (Open (length (v .code)) t ∷ []);
+        starts = v .starts;
+        depth = behind k e;
+      })
+  jumped : {k : ℕ} (d e i o t : ℕ) → v .depth ≡ Live d → afterOf d k (jumpBy (bits (length (v .code)) o)) ≡ A.Depth e
+      → takenDepthOf d k ≡ A.Depth t
       → getElem? (v .marks) i ≡ some (Target o t) → near (length (v .code)) o ≡ true
       → Moved v (emitJumpTo k (T.Row i)) ok
-      (record { code = v .code ++ encode k (jumpBy (bits (length (v .code)) o)) []; marks = v .marks; starts = v .starts; depth = behind k e })
-  patched : (i o d : ℕ) → getElem? (v .marks) i ≡ some (Open o d) → d ≤ wordMax → meets (v .depth) d ≡ true → near o (length (v .code)) ≡ true
+      (record {
+        code = v .code ++ encode k (jumpBy (bits (length (v .code)) o)) [];
+        marks = v .marks;
+        starts = v .starts;
+        depth = behind k e;
+      })
+  patched : (i o d : ℕ) → getElem? (v .marks) i ≡ some (Open o d) → d ≤ wordMax → meets (v .depth) d ≡ true
+      → near o (length (v .code)) ≡ true
       → o + jumpSize ≤ length (v .code)
       → Moved v (patchJump (L.Row i)) ok
       (record { code = set (set (v .code) (o + 1) (bits o (length (v .code)) % 256)) (o + 2) (bits o (length (v .code)) / 256); marks = set (v .marks) i (Patched o d); starts = v .starts; depth = Live d })
   spotted : (d : ℕ) → v .depth ≡ Live d
       → Moved v jumpTarget (target (T.Row (length (v .marks))))
-      (record { code = v .code; marks = v .marks ++ (Target (length (v .code)) d ∷ []); starts = v .starts; depth = v .depth })
+      (record {
+        code = v .code;
+        marks = v .marks ++ (Target (length (v .code)) d ∷ []);
+        starts = v .starts;
+        depth = v .depth;
+      })
   opened : (d : ℕ) → v .depth ≡ Dead
-      → Moved v (newRegion d) ok (record { code = v .code; marks = v .marks; starts = v .starts ++ ((length (v .code), d) ∷ []); depth = Live d })
+      → Moved v (newRegion d) ok
+      (record {
+        code = v .code;
+        marks = v .marks;
+        starts = v .starts ++ ((length (v .code), d) ∷ []);
+        depth = Live d;
+      })

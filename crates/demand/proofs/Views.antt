@@ -56,27 +56,35 @@ use Rattle.demand.proofs.Moves.{jumped-at, labelled-at, opened-at, patc
 -- emission
 
 -- an instruction's bytes behind the used ones
-module _ (c : Core) (l : Location) (d k : ℕ) (o : Operand) (ns : List ℕ) (word : ℕ) (code : List ℕ) (ll s : ℕ) (a : Depth) (w : ℕ)
+module _ (c : Core) (l : Location) (d k : ℕ) (o : Operand) (ns : List ℕ) (word : ℕ) (code : List ℕ) (ll s : ℕ)
+    (a : Depth) (w : ℕ)
     (within : c .code ≤ length code) (g : LiveGoes c l d k o (length ns) word (length code) ll s a w) where
   pub code-grows : take (c .code + s) (put (c .code) (encode k o ns) code) ≡ take (c .code) code ++ encode k o ns
   code-grows =
-      ap (λ (z : ℕ). take (c .code + z) (put (c .code) (encode k o ns) code)) (g .size ∙ sym (length-encode k o ns (g .count)))
+      ap (λ (z : ℕ). take (c .code + z) (put (c .code) (encode k o ns) code))
+      (g .size ∙ sym (length-encode k o ns (g .count)))
       ∙ take-put-all (c .code) (encode k o ns) code within
 
 module _ (b : Builder) (k name : ℕ) (o : Operand) (ns code locs marks starts : List ℕ) where
   emit-by : (p : Plan) → planOf (b .core) (b .location) k name o (length ns) (length code) (length locs) ≡ p
-      → Moved (viewOf b code marks starts) (emit k o ns) (given (outcomeBy b (commitOf p (b .core) (b .location) (encode k o ns) code locs) .answer))
-      (viewOf (after (outcomeBy b (commitOf p (b .core) (b .location) (encode k o ns) code locs) .answer) b) (commitOf p (b .core) (b .location) (encode k o ns) code locs .code) marks starts)
+      → Moved (viewOf b code marks starts) (emit k o ns)
+      (given (outcomeBy b (commitOf p (b .core) (b .location) (encode k o ns) code locs) .answer))
+      (viewOf (after (outcomeBy b (commitOf p (b .core) (b .location) (encode k o ns) code locs) .answer) b)
+      (commitOf p (b .core) (b .location) (encode k o ns) code locs .code) marks starts)
   emit-by Idle e = dead-emit (plan-idle (b .core) (b .location) k name o (length ns) (length code) (length locs) e)
   emit-by (Refuse r) e = refused
   emit-by (Go a w s) e =
       let g = plan-goes (b .core) (b .location) k name o (length ns) (length code) (length locs) s w a e in
-      rw (code-grows (b .core) (b .location) (g .here) k o ns 0 code (length locs) s a w (g .sound .code) (g .goes), g .goes .depth)
+      rw (
+        code-grows (b .core) (b .location) (g .here) k o ns 0 code (length locs) s a w (g .sound .code) (g .goes),
+        g .goes .depth,
+      )
       (emitted (g .here) (g .goes .next) (g .live) (g .goes .count) (g .goes .few) (g .goes .falls))
 
   -- every emitting call without a mark
   pub emit-moves : Moved (viewOf b code marks starts) (emit k o ns) (given (emitNamed b k name o ns code locs .answer))
-      (viewOf (after (emitNamed b k name o ns code locs .answer) b) (emitNamed b k name o ns code locs .code) marks starts)
+      (viewOf (after (emitNamed b k name o ns code locs .answer) b) (emitNamed b k name o ns code locs .code) marks
+      starts)
   unfolding emitNamed emitCore
   emit-moves = emit-by (planOf (b .core) (b .location) k name o (length ns) (length code) (length locs)) refl
 
@@ -93,7 +101,8 @@ target-of x y = refl
 module _ (b : Builder) (k : ℕ) (code locs marks starts : List ℕ) where
   jump-by : (p : Plan) → jumpPlanOf (b .core) (b .location) k (length code) (length locs) (length marks) ≡ p
       → Moved (viewOf b code marks starts) (emitJump k) (givenJump (commitJump p b k code locs marks .answer))
-      (viewOf (afterJump (commitJump p b k code locs marks .answer) b) (commitJump p b k code locs marks .code) (commitJump p b k code locs marks .marks) starts)
+      (viewOf (afterJump (commitJump p b k code locs marks .answer) b) (commitJump p b k code locs marks .code)
+      (commitJump p b k code locs marks .marks) starts)
   jump-by Idle e = dead-jump (jump-idle (b .core) (b .location) k (length code) (length locs) (length marks) e)
   jump-by (Refuse r) e = refused
   jump-by (Go a w s) e =
@@ -105,11 +114,13 @@ module _ (b : Builder) (k : ℕ) (code locs marks starts : List ℕ) where
         marks-push (c .marks) openKind (c .code) w marks (omega (arith, g .mark)),
         open-of (c .code) w,
       )
-      (labelled-at (viewOf b code marks starts) k (g .here) (g .goes .next) w (c .marks) (c .code) (tab-length (c .marks) (markAt marks)) (length-take-le (c .code) code (g .sound .code))
+      (labelled-at (viewOf b code marks starts) k (g .here) (g .goes .next) w (c .marks) (c .code)
+      (tab-length (c .marks) (markAt marks)) (length-take-le (c .code) code (g .sound .code))
       (g .live) (g .goes .falls) (g .taken))
 
   pub jump-moves : Moved (viewOf b code marks starts) (emitJump k) (givenJump (emitJumpOf b k code locs marks .answer))
-      (viewOf (afterJump (emitJumpOf b k code locs marks .answer) b) (emitJumpOf b k code locs marks .code) (emitJumpOf b k code locs marks .marks) starts)
+      (viewOf (afterJump (emitJumpOf b k code locs marks .answer) b) (emitJumpOf b k code locs marks .code)
+      (emitJumpOf b k code locs marks .marks) starts)
   unfolding emitJumpOf
   jump-moves = jump-by (jumpPlanOf (b .core) (b .location) k (length code) (length locs) (length marks)) refl
 
@@ -117,20 +128,28 @@ module _ (b : Builder) (k : ℕ) (code locs marks starts : List ℕ) where
 
 module _ (b : Builder) (k : ℕ) (t : JumpTarget) (code locs marks starts : List ℕ) where
   to-by : (p : Plan) → toPlanOf (b .core) (b .location) k t (length code) (length locs) marks ≡ p
-      → Moved (viewOf b code marks starts) (emitJumpTo k t) (given (outcomeBy b (commitTo p (b .core) (b .location) k code locs) .answer))
-      (viewOf (after (outcomeBy b (commitTo p (b .core) (b .location) k code locs) .answer) b) (commitTo p (b .core) (b .location) k code locs .code) marks starts)
+      → Moved (viewOf b code marks starts) (emitJumpTo k t)
+      (given (outcomeBy b (commitTo p (b .core) (b .location) k code locs) .answer))
+      (viewOf (after (outcomeBy b (commitTo p (b .core) (b .location) k code locs) .answer) b)
+      (commitTo p (b .core) (b .location) k code locs .code) marks starts)
   to-by Idle e = dead-to (to-idle (b .core) (b .location) k t (length code) (length locs) marks e)
   to-by (Refuse r) e = refused
   to-by (Go a w s) e =
       let c = b .core in
       let g = to-goes c (b .location) k t (length code) (length locs) marks s w a e in
       let u = mark-used (c .marks) marks (g .row) (Target (g .offset) (g .depth)) (g .mark) (λ n. clash cc) in
-      rw (code-grows c (b .location) (g .here) k (jumpBy w) [] w code (length locs) s a w (g .sound .code) (g .goes), g .goes .depth)
-      (jumped-at (viewOf b code marks starts) k (g .here) (g .goes .next) (g .row) (g .offset) (g .depth) (c .code) w t (g .target) (length-take-le (c .code) code (g .sound .code)) (g .word)
+      rw (
+        code-grows c (b .location) (g .here) k (jumpBy w) [] w code (length locs) s a w (g .sound .code) (g .goes),
+        g .goes .depth,
+      )
+      (jumped-at (viewOf b code marks starts) k (g .here) (g .goes .next) (g .row) (g .offset) (g .depth) (c .code) w t
+      (g .target) (length-take-le (c .code) code (g .sound .code)) (g .word)
       (g .live) (g .goes .falls) (g .taken) (tab-nth (c .marks) (markAt marks) (g .row) (u .0) ∙ ap some (u .1)) (g .close))
 
-  pub to-moves : Moved (viewOf b code marks starts) (emitJumpTo k t) (given (emitJumpToOf b k t code locs marks .answer))
-      (viewOf (after (emitJumpToOf b k t code locs marks .answer) b) (emitJumpToOf b k t code locs marks .code) marks starts)
+  pub to-moves : Moved (viewOf b code marks starts) (emitJumpTo k t)
+      (given (emitJumpToOf b k t code locs marks .answer))
+      (viewOf (after (emitJumpToOf b k t code locs marks .answer) b) (emitJumpToOf b k t code locs marks .code) marks
+      starts)
   unfolding emitJumpToOf jumpToCore
   to-moves = to-by (toPlanOf (b .core) (b .location) k t (length code) (length locs) marks) refl
 
@@ -143,15 +162,19 @@ revived-live (Live f) d e = ap Live (eqb-true f d e)
 module _ (b : Builder) (code marks starts : List ℕ) where
   dead-by : (p : PatchPlan) → patchGuard (markable (b .core) (length code) (length marks)) Unsound Patching.Idle ≡ p
       → Moved (viewOf b code marks starts) (patchJump L.Dead) (given (commitPatch p b L.Dead code marks .answer))
-      (viewOf (after (commitPatch p b L.Dead code marks .answer) b) (commitPatch p b L.Dead code marks .code) (commitPatch p b L.Dead code marks .marks) starts)
+      (viewOf (after (commitPatch p b L.Dead code marks .answer) b) (commitPatch p b L.Dead code marks .code)
+      (commitPatch p b L.Dead code marks .marks) starts)
   dead-by Patching.Idle e = dead-patch
   dead-by (Patching.Refuse r) e = refused
   dead-by (Patching.Go a w o) e = absurd (guard-never (markable (b .core) (length code) (length marks)) _ o w a e)
 
   module _ (i : ℕ) where
-    row-by : (p : PatchPlan) → markable (b .core) (length code) (length marks) ≡ true → markPlanOf (markIn (b .core .marks) marks i) (b .core) ≡ p
-        → Moved (viewOf b code marks starts) (patchJump (L.Row i)) (given (commitPatch p b (L.Row i) code marks .answer))
-        (viewOf (after (commitPatch p b (L.Row i) code marks .answer) b) (commitPatch p b (L.Row i) code marks .code) (commitPatch p b (L.Row i) code marks .marks) starts)
+    row-by : (p : PatchPlan) → markable (b .core) (length code) (length marks) ≡ true
+        → markPlanOf (markIn (b .core .marks) marks i) (b .core) ≡ p
+        → Moved (viewOf b code marks starts) (patchJump (L.Row i))
+        (given (commitPatch p b (L.Row i) code marks .answer))
+        (viewOf (after (commitPatch p b (L.Row i) code marks .answer) b) (commitPatch p b (L.Row i) code marks .code)
+        (commitPatch p b (L.Row i) code marks .marks) starts)
     row-by Patching.Idle sd e = absurd (mark-busy (markIn (b .core .marks) marks i) (b .core) e)
     row-by (Patching.Refuse r) sd e = refused
     row-by (Patching.Go a w o) sd e =
@@ -160,24 +183,32 @@ module _ (b : Builder) (code marks starts : List ℕ) where
         let g = patch-goes c o w a (markIn (c .marks) marks i) e in
         let u = mark-used (c .marks) marks i (Open o (g .depth)) (g .mark) (λ n. clash cc) in
         rw (code-patch code (c .code) o w (g .place) (h .code), marks-patch i o (g .depth) marks (u .1) (c .marks) (u .0) (omega (arith, h .rows)))
-        (patched-at (viewOf b code marks starts) i o (g .depth) (c .code) w a (g .after ∙ revived-live (c .depth) (g .depth) (g .meet)) (length-take-le (c .code) code (h .code)) (g .word)
+        (patched-at (viewOf b code marks starts) i o (g .depth) (c .code) w a
+        (g .after ∙ revived-live (c .depth) (g .depth) (g .meet)) (length-take-le (c .code) code (h .code))
+        (g .word)
         (tab-nth (c .marks) (markAt marks) i (u .0) ∙ ap some (u .1)) (g .small) (g .meet) (g .close) (g .place))
 
-    row-any : (t : Bool) → markable (b .core) (length code) (length marks) ≡ t → (p : PatchPlan) → patchGuard t Unsound (markPlanOf (markIn (b .core .marks) marks i) (b .core)) ≡ p
-        → Moved (viewOf b code marks starts) (patchJump (L.Row i)) (given (commitPatch p b (L.Row i) code marks .answer))
-        (viewOf (after (commitPatch p b (L.Row i) code marks .answer) b) (commitPatch p b (L.Row i) code marks .code) (commitPatch p b (L.Row i) code marks .marks) starts)
+    row-any : (t : Bool) → markable (b .core) (length code) (length marks) ≡ t → (p : PatchPlan)
+        → patchGuard t Unsound (markPlanOf (markIn (b .core .marks) marks i) (b .core)) ≡ p
+        → Moved (viewOf b code marks starts) (patchJump (L.Row i))
+        (given (commitPatch p b (L.Row i) code marks .answer))
+        (viewOf (after (commitPatch p b (L.Row i) code marks .answer) b) (commitPatch p b (L.Row i) code marks .code)
+        (commitPatch p b (L.Row i) code marks .marks) starts)
     row-any true sd p e = row-by p sd e
     row-any false sd p e = rw (sym e) refused
 
   label-by : (x : JumpLabel) (p : PatchPlan) → patchPlanOf (b .core) x (length code) marks ≡ p
       → Moved (viewOf b code marks starts) (patchJump x) (given (commitPatch p b x code marks .answer))
-      (viewOf (after (commitPatch p b x code marks .answer) b) (commitPatch p b x code marks .code) (commitPatch p b x code marks .marks) starts)
+      (viewOf (after (commitPatch p b x code marks .answer) b) (commitPatch p b x code marks .code)
+      (commitPatch p b x code marks .marks) starts)
   unfolding patchPlanOf
   label-by L.Dead p e = dead-by p e
   label-by (L.Row i) p e = row-any i (markable (b .core) (length code) (length marks)) refl p e
 
-  pub patch-moves : (x : JumpLabel) → Moved (viewOf b code marks starts) (patchJump x) (given (patchJumpOf b x code marks .answer))
-      (viewOf (after (patchJumpOf b x code marks .answer) b) (patchJumpOf b x code marks .code) (patchJumpOf b x code marks .marks) starts)
+  pub patch-moves : (x : JumpLabel) → Moved (viewOf b code marks starts) (patchJump x)
+      (given (patchJumpOf b x code marks .answer))
+      (viewOf (after (patchJumpOf b x code marks .answer) b) (patchJumpOf b x code marks .code)
+      (patchJumpOf b x code marks .marks) starts)
   unfolding patchJumpOf
   patch-moves x = label-by x (patchPlanOf (b .core) x (length code) marks) refl
 
@@ -191,11 +222,18 @@ module _ (b : Builder) (code marks starts : List ℕ) (fits : b .core .code ≤ 
   spot-by (Live d) false ed et = rw et refused
   spot-by (Live d) true ed et =
       let c = b .core in
-      rw (et, marks-push (c .marks) targetKind (c .code) d marks (omega (arith, ltb-true (c .marks) (length marks / markCells) et)), target-of (c .code) d)
-      (spotted-at (viewOf b code marks starts) d (c .marks) (c .code) (tab-length (c .marks) (markAt marks)) (length-take-le (c .code) code fits) ed)
+      rw (
+        et,
+        marks-push (c .marks) targetKind (c .code) d marks
+            (omega (arith, ltb-true (c .marks) (length marks / markCells) et)),
+        target-of (c .code) d,
+      )
+      (spotted-at (viewOf b code marks starts) d (c .marks) (c .code) (tab-length (c .marks) (markAt marks))
+      (length-take-le (c .code) code fits) ed)
 
   target-by : (t : Bool) → (countsOf b (within markCells (b .core .marks) (length marks))) ≡ t
-      → Moved (viewOf b code marks starts) jumpTarget (givenTarget (targetOf b marks .answer)) (viewOf (afterTarget (targetOf b marks .answer) b) code (targetOf b marks .marks) starts)
+      → Moved (viewOf b code marks starts) jumpTarget (givenTarget (targetOf b marks .answer))
+      (viewOf (afterTarget (targetOf b marks .answer) b) code (targetOf b marks .marks) starts)
   unfolding targetOf
   target-by true e = rw e (spot-by (b .core .depth) (room markCells (b .core .marks) (length marks)) refl refl)
   target-by false e = rw e refused
@@ -210,11 +248,16 @@ module _ (b : Builder) (code marks starts : List ℕ) (fits : b .core .code ≤ 
   start-by d (Live f) t ed et = refused
   start-by d Dead false ed et = rw et refused
   start-by d Dead true ed et =
-      rw (et, starts-push (b .starts) (b .core .code) d starts (omega (arith, ltb-true (b .starts) (length starts / startCells) et)))
+      rw (
+        et,
+        starts-push (b .starts) (b .core .code) d starts
+            (omega (arith, ltb-true (b .starts) (length starts / startCells) et)),
+      )
       (opened-at (viewOf b code marks starts) d (b .core .code) (length-take-le (b .core .code) code fits) ed)
 
   region-by : (d : ℕ) (t : Bool) → countsOf b (within startCells (b .starts) (length starts)) ≡ t
-      → Moved (viewOf b code marks starts) (newRegion d) (given (regionOf b d starts .answer)) (viewOf (after (regionOf b d starts .answer) b) code marks (regionOf b d starts .cells))
+      → Moved (viewOf b code marks starts) (newRegion d) (given (regionOf b d starts .answer))
+      (viewOf (after (regionOf b d starts .answer) b) code marks (regionOf b d starts .cells))
   unfolding regionOf
   region-by d true e = rw e (start-by d (b .core .depth) (room startCells (b .starts) (length starts)) refl refl)
   region-by d false e = rw e refused
@@ -229,7 +272,8 @@ pub made : (a b : Builder) → Accepted a ≡ Accepted b → a ≡ b
 made a b e = cc
 
 pub new-view : (told : Depth) (code marks starts : List ℕ) (b : Builder) → newOf told starts .answer ≡ Accepted b
-    → viewOf b code marks (newOf told starts .cells) ≡ record { code = []; marks = []; starts = born told; depth = told }
+    → viewOf b code marks (newOf told starts .cells)
+    ≡ record { code = []; marks = []; starts = born told; depth = told }
 unfolding newOf tab
 new-view Dead code marks starts b e = rw (← made (freshAt Dead 0) b e) refl
 new-view (Live d) code marks starts b e = go (room startCells 0 (length starts)) refl e

@@ -43,19 +43,23 @@ use Rattle.demand.proofs.Views.{made}
 -- emission keeps the count of starts
 
 module _ (b : Builder) where
-  answered-starts : (x : CoreOutcome) (a : CoreAnswer) → x .answer ≡ a → after (outcomeBy b x .answer) b .starts ≡ b .starts
+  answered-starts : (x : CoreOutcome) (a : CoreAnswer) → x .answer ≡ a
+      → after (outcomeBy b x .answer) b .starts ≡ b .starts
   answered-starts x (C.Accepted c) e = rw e refl
   answered-starts x (C.Refused r) e = rw e refl
 
-  pub emit-starts : (k name : ℕ) (o : Operand) (ns code locs : List ℕ) → after (emitNamed b k name o ns code locs .answer) b .starts ≡ b .starts
+  pub emit-starts : (k name : ℕ) (o : Operand) (ns code locs : List ℕ)
+      → after (emitNamed b k name o ns code locs .answer) b .starts ≡ b .starts
   unfolding emitNamed
   emit-starts k name o ns code locs = answered-starts (emitCore (b .core) (b .location) k name o ns code locs) _ refl
 
-  pub to-starts : (k : ℕ) (t : JumpTarget) (code locs marks : List ℕ) → after (emitJumpToOf b k t code locs marks .answer) b .starts ≡ b .starts
+  pub to-starts : (k : ℕ) (t : JumpTarget) (code locs marks : List ℕ)
+      → after (emitJumpToOf b k t code locs marks .answer) b .starts ≡ b .starts
   unfolding emitJumpToOf
   to-starts k t code locs marks = answered-starts (jumpToCore (b .core) (b .location) k t code locs marks) _ refl
 
-  pub jump-starts : (k : ℕ) (code locs marks : List ℕ) → afterJump (emitJumpOf b k code locs marks .answer) b .starts ≡ b .starts
+  pub jump-starts : (k : ℕ) (code locs marks : List ℕ)
+      → afterJump (emitJumpOf b k code locs marks .answer) b .starts ≡ b .starts
   unfolding emitJumpOf
   jump-starts k code locs marks = go (jumpPlanOf (b .core) (b .location) k (length code) (length locs) (length marks))
     where
@@ -64,7 +68,8 @@ module _ (b : Builder) where
       go (Refuse r) = refl
       go (Go a w s) = refl
 
-  pub patch-starts : (l : JumpLabel) (code marks : List ℕ) → after (patchJumpOf b l code marks .answer) b .starts ≡ b .starts
+  pub patch-starts : (l : JumpLabel) (code marks : List ℕ)
+      → after (patchJumpOf b l code marks .answer) b .starts ≡ b .starts
   unfolding patchJumpOf
   patch-starts l code marks = go (patchPlanOf (b .core) l (length code) marks)
     where
@@ -75,20 +80,24 @@ module _ (b : Builder) where
 
   -- a target keeps both counts
   abbrev TargetKeeps : TargetOutcome → Type 0
-  TargetKeeps x = (afterTarget (x .answer) b .core .code ≡ b .core .code) × (afterTarget (x .answer) b .starts ≡ b .starts)
+  TargetKeeps x = (afterTarget (x .answer) b .core .code ≡ b .core .code)
+      × (afterTarget (x .answer) b .starts ≡ b .starts)
 
   target-at : (marks : List ℕ) (d : Depth) → TargetKeeps (targetAt d b marks)
   target-at marks Dead = (refl, refl)
-  target-at marks (Live d) = either TargetKeeps (room markCells (b .core .marks) (length marks)) _ _ (refl, refl) (refl, refl)
+  target-at marks (Live d) =
+      either TargetKeeps (room markCells (b .core .marks) (length marks)) _ _ (refl, refl) (refl, refl)
 
   pub target-keeps : (marks : List ℕ) → TargetKeeps (targetOf b marks)
   unfolding targetOf
-  target-keeps marks = either TargetKeeps (countsOf b (within markCells (b .core .marks) (length marks))) _ _ (target-at marks (b .core .depth)) (refl, refl)
+  target-keeps marks = either TargetKeeps (countsOf b (within markCells (b .core .marks) (length marks)))
+      _ _ (target-at marks (b .core .depth)) (refl, refl)
 
   -- a region adds a start where there is room for it
   module _ (d : ℕ) (starts : List ℕ) (inside : b .starts * startCells ≤ length starts) where
     abbrev RegionKeeps : Kept → Type 0
-    RegionKeeps x = (after (x .answer) b .core .code ≡ b .core .code) × (after (x .answer) b .starts * startCells ≤ length (x .cells))
+    RegionKeeps x = (after (x .answer) b .core .code ≡ b .core .code)
+        × (after (x .answer) b .starts * startCells ≤ length (x .cells))
 
     opened-keeps : (t : Bool) → room startCells (b .starts) (length starts) ≡ t
         → RegionKeeps (unless t (Full Starts) starts (kept (Accepted (opened b d (b .starts + 1))) (put (b .starts * startCells) (b .core .code ∷ d ∷ []) starts)))
@@ -103,11 +112,13 @@ module _ (b : Builder) where
 
     pub region-keeps : RegionKeeps (regionOf b d starts)
     unfolding regionOf
-    region-keeps = either RegionKeeps (countsOf b (within startCells (b .starts) (length starts))) _ _ (region-at (b .core .depth)) (refl, inside)
+    region-keeps = either RegionKeeps (countsOf b (within startCells (b .starts) (length starts)))
+        _ _ (region-at (b .core .depth)) (refl, inside)
 
   -- the other calls keep the core and the starts
 
-  pub same-after : (x : Kept) → SameCore b x → (after (x .answer) b .core ≡ b .core) × (after (x .answer) b .starts ≡ b .starts)
+  pub same-after : (x : Kept) → SameCore b x → (after (x .answer) b .core ≡ b .core)
+      × (after (x .answer) b .starts ≡ b .starts)
   unfolding SameCore
   same-after x h = go (x .answer) refl
     where
@@ -115,7 +126,8 @@ module _ (b : Builder) where
       go (Accepted n) e = h n e
       go (Refused r) e = (refl, refl)
 
-  pub const-after : (x : AddedKept) → ((n : Builder) (i : ℕ) → x .answer ≡ N.Made n i → (n .core ≡ b .core) × (n .starts ≡ b .starts))
+  pub const-after : (x : AddedKept) →
+      ((n : Builder) (i : ℕ) → x .answer ≡ N.Made n i → (n .core ≡ b .core) × (n .starts ≡ b .starts))
       → (afterConst (x .answer) b .core ≡ b .core) × (afterConst (x .answer) b .starts ≡ b .starts)
   const-after x h = go (x .answer) refl
     where

@@ -27,8 +27,9 @@ I8 z = mag z < 128
 abbrev pub U16 : ℕ → Type 0
 U16 n = n < 65536
 
--- the public calls, but for `new`, with their arguments in the order of the Rust, and the one by number. Two carry the range that their type gives: a signed
--- operand and a region's depth. Of the others the demand holds for any numbers
+-- the public calls, but for `new`, with their arguments in the order of the Rust, and the one by number. Two carry
+-- the range that their type gives: a signed operand and a region's depth. Of the others the demand holds for any
+-- numbers
 pub data PublicCall : Type 0 where
   emit′ : (opcode : ℕ) → PublicCall
   emit-u8 : (opcode operand : ℕ) → PublicCall
@@ -78,8 +79,8 @@ loads slot =
 abbrev pub stores : ℕ → Call
 stores slot = cond (leb slot 255) (emit StoreLocal (O.U8 slot) []) (emit StoreLocalW (O.U16 slot) [])
 
--- the calls by number, from 0 on, on numbers as C gives them and `n` keyword names; where one is too large for its field
--- nothing is emitted
+-- the calls by number, from 0 on, on numbers as C gives them and `n` keyword names; where one is too large for its
+-- field nothing is emitted
 
 abbrev pub fitting : (limit number : ℕ) → Call → Call
 fitting limit number call = cond (ltb number limit) call other
@@ -114,7 +115,8 @@ naming ns jumpTarget = jumpTarget
 naming ns (newRegion d) = newRegion d
 naming ns other = other
 
--- what the history takes each call for: written apart from the builder's definitions, so that the two are held together by proof
+-- what the history takes each call for: written apart from the builder's definitions, so that the two are held
+-- together by proof
 abbrev pub kindOf : PublicCall → Call
 kindOf (emit′ k) = emit k O.None []
 kindOf (emit-u8 k a) = emit k (O.U8 a) []

@@ -87,16 +87,20 @@ pub record Demand (w w′ : World) (h : History) : Type 0 where
   pub starts : regionStarts w′ ≡ cells (h .starts)
   -- "one at each instruction": the depth that the builder had before it
   pub before : (r : Row isa) → List·Memᴰ r (h .rows) → depths w′ h (r .offset) ≡ some (r .depth)
-  -- "the depths derived from those bytes and the region starts alone": the smallest assignment, and just what paths from the starts lead to
+  -- "the depths derived from those bytes and the region starts alone": the smallest assignment, and just what paths
+  -- from the starts lead to
   pub smallest : Smallest lastOpcode (finished w′) (regionStarts w′) (depths w′ h)
   pub derived : (o d : ℕ) → (depths w′ h o ≡ some d) ↔ Derived lastOpcode (finished w′) (regionStarts w′) o d
   -- so `check` of those bytes and starts accepts where its cells have room, by its contract
-  pub checks : (κs : Lfts 3) (code : Holding (finished w′)) (starts : Holding (regionStarts w′)) (entry exit : Slice) (r : Checked)
+  pub checks : (κs : Lfts 3) (code : Holding (finished w′)) (starts : Holding (regionStarts w′)) (entry exit : Slice)
+      (r : Checked)
       → check-says κs (code .slice, (starts .slice, (entry, tt))) r (code .slice, (starts .slice, (exit, tt)))
       → length (finished w′) < length (entry .now) → AcceptsAs w′ h r (exit .now)
   -- and so does `check_built` of the builder and its tables
-  pub checks-built : (κs : Lfts 3) (code : Holding (w′ .code)) (starts : Holding (w′ .starts)) (entry exit : Slice) (r : Checked)
-      → check-built-says κs (w′ .state, (code .slice, (starts .slice, (entry, tt)))) r (w′ .state, (code .slice, (starts .slice, (exit, tt))))
+  pub checks-built : (κs : Lfts 3) (code : Holding (w′ .code)) (starts : Holding (w′ .starts)) (entry exit : Slice)
+      (r : Checked)
+      → check-built-says κs (w′ .state, (code .slice, (starts .slice, (entry, tt)))) r
+      (w′ .state, (code .slice, (starts .slice, (exit, tt))))
       → length (finished w′) < length (entry .now) → AcceptsAs w′ h r (exit .now)
 
 -- the demand: of every fresh builder, all calls taken from there, and a `build` that is accepted (R59)

@@ -1,5 +1,5 @@
--- The history: the instructions accepted while live, each with its offset and the depth before it. It comes from the calls, their
--- answers and the depths before them, never from bytes.
+-- The history: the instructions accepted while live, each with its offset and the depth before it. It comes from the
+-- calls, their answers and the depths before them, never from bytes.
 -- Assumes nothing.
 use mathlib.Core.Bool.{cond}
 use mathlib.Core.List.{List, [], _∷_, _++_, map}
@@ -47,7 +47,8 @@ module _ (I : Isa) where
   size (one p) = length (I .bytes p)
   size (leap j g) = jumpSize
 
-  -- the instruction that is to be read: "its target less the offset of its opcode less 3"; a jump that still waits has 0
+  -- the instruction that is to be read: "its target less the offset of its opcode less 3"; a jump that still waits
+  -- has 0
   abbrev pub final : ℕ → What I → I .Ins
   final o (one p) = I .plain p
   final o (leap j (waits l)) = I .jump j (pos 0)

@@ -23,7 +23,8 @@ AllFormed is = (i : Instruction) → List·Memᴰ i is → WellFormed i
 -- R60
 abbrev pub PrefixFree : Type 0
 PrefixFree =
-    (i j : Instruction) (rest : List ℕ) → WellFormed i → WellFormed j → isa .bytes i ++ rest ≡ isa .bytes j → (i ≡ j) × (rest ≡ [])
+    (i j : Instruction) (rest : List ℕ) → WellFormed i → WellFormed j → isa .bytes i ++ rest ≡ isa .bytes j
+    → (i ≡ j) × (rest ≡ [])
 
 -- R60
 abbrev pub OneList : Type 0

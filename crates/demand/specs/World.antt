@@ -1,6 +1,6 @@
--- Any calls on a builder: state and lent tables as each call leaves them, by the contract of its function.
--- `Learnt` of a function is its `ensures` as the toolchain reads it from the source: a fact about the arguments, the answer and the
--- arguments at exit. So nothing here says a second time what a call does.
+-- Any calls on a builder: state and lent tables as each call leaves them, by the contract of its function. `Learnt`
+-- of a function is its `ensures` as the toolchain reads it from the source: a fact about the arguments, the answer
+-- and the arguments at exit. So nothing here says a second time what a call does.
 -- Assumes nothing.
 use mathlib.Core.Path.{_≡_}
 use mathlib.Core.List.{List}
@@ -50,9 +50,12 @@ use Rattle.builder.proofs.Builder.stack_depth.Reads.{Learnt as stack-depth-says
 use Rattle.builder.proofs.Builder.is_dead.Reads.{Learnt as is-dead-says}
 use Rattle.demand.specs.History.{Given, no, ok, label, target, History, seen}
 use Rattle.demand.specs.Calls.{emit′, emit-u8, emit-i8, emit-u8-u8, emit-u16, emit-u16-u16, emit-u16-u8, emit-u16-u8-u8, emit-call-builtin-function, emit-call-builtin-type}
-use Rattle.demand.specs.Calls.{emit-call-function-kw, emit-call-attr-kw, emit-raise-unbound-local, emit-load-global-callable, emit-name-op, emit-load-local, emit-store-local, emit-numbered}
+use Rattle.demand.specs.Calls.{emit-call-function-kw, emit-call-attr-kw, emit-raise-unbound-local}
+use Rattle.demand.specs.Calls.{emit-load-global-callable, emit-name-op, emit-load-local, emit-store-local}
+use Rattle.demand.specs.Calls.{emit-numbered}
 use Rattle.demand.specs.Calls.{emit-jump, emit-jump-to, current-jump-target, patch-jump, new-code-region, add-const, add-exception-entry, register-local-names, register-local-name, build}
-use Rattle.demand.specs.Calls.{set-location, current-offset, current-position, stack-depth, is-dead, PublicCall, kindOf}
+use Rattle.demand.specs.Calls.{set-location, current-offset, current-position, stack-depth, is-dead, PublicCall}
+use Rattle.demand.specs.Calls.{kindOf}
 
 -- the state and the seven lent tables
 pub record World : Type 0 where
@@ -66,9 +69,11 @@ pub record World : Type 0 where
   pub starts : List ℕ
 
 abbrev pub world : Builder → List ℕ → List ℕ → List ℕ → List ℕ → List ℕ → List ℕ → List ℕ → World
-world b c l e k n m s = record { state = b; code = c; locations = l; exceptions = e; constants = k; names = n; marks = m; starts = s }
+world b c l e k n m s =
+    record { state = b; code = c; locations = l; exceptions = e; constants = k; names = n; marks = m; starts = s }
 
--- what an answer says, and the state that the caller has then: a refused call hands back none, so the caller has the one that it gave
+-- what an answer says, and the state that the caller has then: a refused call hands back none, so the caller has the
+-- one that it gave
 
 abbrev pub given : Answer → Given
 given (R.Accepted b) = ok
@@ -145,7 +150,8 @@ emission r t w =
 -- code, locations and marks
 abbrev pub labelling : Jumped → Lent → World → World
 labelling r t w =
-    world (afterJump r (w .state)) (t .code .now) (t .locations .now) (w .exceptions) (w .constants) (w .names) (t .marks .now) (w .starts)
+    world (afterJump r (w .state)) (t .code .now) (t .locations .now) (w .exceptions) (w .constants) (w .names)
+    (t .marks .now) (w .starts)
 
 -- marks
 abbrev pub targeting : Targeted → Lent → World → World
@@ -160,22 +166,26 @@ patching r t w =
 -- starts
 abbrev pub opening : Answer → Lent → World → World
 opening r t w =
-    world (after r (w .state)) (w .code) (w .locations) (w .exceptions) (w .constants) (w .names) (w .marks) (t .starts .now)
+    world (after r (w .state)) (w .code) (w .locations) (w .exceptions) (w .constants) (w .names) (w .marks)
+    (t .starts .now)
 
 -- constants
 abbrev pub holding : Added → Lent → World → World
 holding r t w =
-    world (afterConst r (w .state)) (w .code) (w .locations) (w .exceptions) (t .constants .now) (w .names) (w .marks) (w .starts)
+    world (afterConst r (w .state)) (w .code) (w .locations) (w .exceptions) (t .constants .now) (w .names) (w .marks)
+    (w .starts)
 
 -- exceptions
 abbrev pub catching : Answer → Lent → World → World
 catching r t w =
-    world (after r (w .state)) (w .code) (w .locations) (t .exceptions .now) (w .constants) (w .names) (w .marks) (w .starts)
+    world (after r (w .state)) (w .code) (w .locations) (t .exceptions .now) (w .constants) (w .names) (w .marks)
+    (w .starts)
 
 -- names
 abbrev pub naming : Answer → Lent → World → World
 naming r t w =
-    world (after r (w .state)) (w .code) (w .locations) (w .exceptions) (w .constants) (t .names .now) (w .marks) (w .starts)
+    world (after r (w .state)) (w .code) (w .locations) (w .exceptions) (w .constants) (t .names .now) (w .marks)
+    (w .starts)
 
 -- none: a call whose answer is the state, and one that only asks
 abbrev pub setting : Builder → Lent → World → World
@@ -184,8 +194,8 @@ setting r t w = world r (w .code) (w .locations) (w .exceptions) (w .constants) 
 abbrev pub asking : {A : Type 0} → A → Lent → World → World
 asking r t w = w
 
--- A call by its contract: some answer and some cells at exit of which the contract holds, and what they come to. `args` are the
--- function's arguments over the lent tables, at entry and at exit.
+-- A call by its contract: some answer and some cells at exit of which the contract holds, and what they come to.
+-- `args` are the function's arguments over the lent tables, at entry and at exit.
 pub record By {K A R : Type 0} (contract : K → A → R → A → Type 0) (args : Lent → A) (tells : R → Given)
     (becomes : R → Lent → World → World) (w : World) (g : Given) (w′ : World) : Type 0 where
   pub lifetimes : K
@@ -247,7 +257,8 @@ Made (patch-jump l) w = By patch-jump-says (λ t. (w .state, (l, (t .code, (t .m
 Made (new-code-region d f) w = By new-code-region-says (λ t. (w .state, (d, (t .starts, tt)))) given opening w
 Made (add-const v) w = By add-const-says (λ t. (w .state, (v, (t .constants, tt)))) givenConst holding w
 Made (add-exception-entry start end handler d n kind) w =
-    By add-exception-entry-says (λ t. (w .state, (start, (end, (handler, (d, (n, (kind, (t .exceptions, tt))))))))) given catching w
+    By add-exception-entry-says (λ t. (w .state, (start, (end, (handler, (d, (n, (kind, (t .exceptions, tt)))))))))
+    given catching w
 Made (register-local-names ns) w =
     λ g w′. (names : Holding ns)
     × By register-local-names-says (λ t. (w .state, (names .slice, (t .names, tt))))
@@ -273,4 +284,5 @@ next x c g w′ = record { world = w′; history = seen (x .history) (x .world .
 -- "Any calls .., refusals among them, state and tables handed on unaltered" (R59), from one standing to another
 pub data Taken (x : Run) : Run → Type 0 where
   none : Taken x x
-  then : {y : Run} (c : PublicCall) (g : Given) (w′ : World) → Taken x y → Made c (y .world) g w′ → Taken x (next y c g w′)
+  then : {y : Run} (c : PublicCall) (g : Given) (w′ : World) → Taken x y → Made c (y .world) g w′
+      → Taken x (next y c g w′)

@@ -1,4 +1,5 @@
--- All twelve examples hold: computed from the definitions that the promises cite, A, K and L by the checker's certificate.
+-- All twelve examples hold: computed from the definitions that the promises cite, A, K and L by the checker's
+-- certificate.
 -- Assumes nothing.
 use mathlib.Core.Path.{refl}
 use mathlib.Core.List.{[], _∷_}
@@ -28,7 +29,10 @@ use Rattle.checker.proofs.Certificate.{certificate, must-accept, must-refuse}
 use Rattle.examples.specs.Table.{Examples, code-a, code-k, from-zero}
 
 pub hold : Examples
-unfolding landing effectBy effectOf takenOf deadMaker table known rowOf shapeOf sizeOf signed operandIn decode stepIn shapeUpTo encode findFrom tableOf goalBy flowOf coversOf firstCovering handlerOf first put soundOf behind emittingOf enterOf planOf emitCore emitNamed markOf markIn fits markable near bits jumpPlanOf emitJumpOf toPlanOf jumpToCore emitJumpToOf markPlanOf patchPlanOf patchJumpOf addConstOf held instructionsFrom readUpTo certificate
+unfolding landing effectBy effectOf takenOf deadMaker table known rowOf shapeOf sizeOf signed operandIn decode stepIn
+    shapeUpTo encode findFrom tableOf goalBy flowOf coversOf firstCovering handlerOf first put soundOf behind
+    emittingOf enterOf planOf emitCore emitNamed markOf markIn fits markable near bits jumpPlanOf emitJumpOf toPlanOf
+    jumpToCore emitJumpToOf markPlanOf patchPlanOf patchJumpOf addConstOf held instructionsFrom readUpTo certificate
 hold = record {
   a = λ d d′ r room P. must-accept _ code-a from-zero (0 ∷ 1 ∷ 65536 ∷ 65536 ∷ 0 ∷ 65536 ∷ 1 ∷ 0 ∷ 1 ∷ 65536 ∷ []) 6 tt (omega arith) d d′ r room P;
   b = (refl, λ code n. rw n refl);

@@ -8,7 +8,8 @@ use lib.ListN.{length, drop}
 use Rattle.op.specs.Opcodes.{lastOpcode, Jump, RaiseUnboundLocal, ForIter, JumpIfTrueOrPop}
 use Rattle.op.specs.Refusals.{numberOf}
 use Rattle.op.specs.declared.Operand.the-variants.{U16, CallKw}
-use Rattle.op.specs.declared.Refusal.the-variants.{DepthTooLarge, JumpTooFar, TooManyKeywords, NameTooLarge, TooManyConstants, DepthsDiffer, NoDepths}
+use Rattle.op.specs.declared.Refusal.the-variants.{DepthTooLarge, JumpTooFar, TooManyKeywords, NameTooLarge}
+use Rattle.op.specs.declared.Refusal.the-variants.{TooManyConstants, DepthsDiffer, NoDepths}
 use Rattle.code.specs.Bytes.{signed}
 use Rattle.code.specs.Encode.{encode}
 use Rattle.code.specs.Entries.{findFrom, entryRow, tableOf}
@@ -116,13 +117,16 @@ pub record Examples : Type 0 where
   pub e : ((names code : List ℕ) → length names ≡ 255 → length code ≡ 513
       → emitOf (live 255 0 0) CallFunctionKw (CallKw 0 (length names % 256)) names code [] ≡ outcome (R.Accepted (live 0 513 0)) (put 0 (encode CallFunctionKw (CallKw 0 255) names) code) [])
       × ((names code : List ℕ) → length names ≡ 256 → length code ≡ 515
-      → (emitOf (live 256 0 0) CallFunctionKw (CallKw 0 (length names % 256)) names code [] ≡ outcome (R.Refused TooManyKeywords) code []) × (numberOf TooManyKeywords ≡ 7)
-      × (emitOf (dead 0 0) CallFunctionKw (CallKw 0 (length names % 256)) names code [] ≡ outcome (R.Accepted (dead 0 0)) code [])
+      → (emitOf (live 256 0 0) CallFunctionKw (CallKw 0 (length names % 256)) names code []
+      ≡ outcome (R.Refused TooManyKeywords) code []) × (numberOf TooManyKeywords ≡ 7)
+      × (emitOf (dead 0 0) CallFunctionKw (CallKw 0 (length names % 256)) names code []
+      ≡ outcome (R.Accepted (dead 0 0)) code [])
       × (emitNamed (dead 0 0) RaiseUnboundLocal 65536 (U16 0) [] code [] ≡ outcome (R.Refused NameTooLarge) code []) × (numberOf NameTooLarge ≡ 8))
   -- F: ForIter at depth 1: 2 / 0; at depth 0: 5
   pub f : (code : List ℕ) → length code ≡ 3
       → (emitJumpOf (live 1 0 0) ForIter code [] (0 ∷ 0 ∷ 0 ∷ 0 ∷ []) ≡ jumpOutcome (J.Made (live 2 3 1) (L.Row 0)) (put 0 (0x5E ∷ 0 ∷ 0 ∷ []) code) [] (put 0 (markRow openKind 0 0) (0 ∷ 0 ∷ 0 ∷ 0 ∷ [])))
-      × (emitJumpOf (live 0 0 0) ForIter code [] (0 ∷ 0 ∷ 0 ∷ 0 ∷ []) ≡ jumpOutcome (J.Refused DepthTooLarge) code [] (0 ∷ 0 ∷ 0 ∷ 0 ∷ []))
+      × (emitJumpOf (live 0 0 0) ForIter code [] (0 ∷ 0 ∷ 0 ∷ 0 ∷ [])
+      ≡ jumpOutcome (J.Refused DepthTooLarge) code [] (0 ∷ 0 ∷ 0 ∷ 0 ∷ []))
       × (numberOf DepthTooLarge ≡ 5)
   -- G: JumpIfTrueOrPop at depth 1 patched right behind itself: 11
   pub g : (emitJumpOf (live 1 0 0) JumpIfTrueOrPop (0 ∷ 0 ∷ 0 ∷ []) [] (0 ∷ 0 ∷ 0 ∷ 0 ∷ [])
@@ -137,8 +141,10 @@ pub record Examples : Type 0 where
       × (findFrom entries 8 0 ≡ F.Row 1 to-30) × (findFrom entries 10 0 ≡ F.Absent)
   -- I: 65,535 held: the next constant is index 65,535; then 9
   pub i : (value : ℕ) (cells : List ℕ) → length cells ≡ 65537
-      → (addConstOf (holding Dead 0 0 65535) value cells ≡ addedKept (N.Made (holding Dead 0 0 65536) 65535) (put 65535 (value ∷ []) cells))
-      × (addConstOf (holding Dead 0 0 65536) value cells ≡ addedKept (N.Refused TooManyConstants) cells) × (numberOf TooManyConstants ≡ 9)
+      → (addConstOf (holding Dead 0 0 65535) value cells
+      ≡ addedKept (N.Made (holding Dead 0 0 65536) 65535) (put 65535 (value ∷ []) cells))
+      × (addConstOf (holding Dead 0 0 65536) value cells ≡ addedKept (N.Refused TooManyConstants) cells)
+      × (numberOf TooManyConstants ≡ 9)
   -- J: load slots 3, 4, 255, 256: 0C; 0D 04; 0D FF; 0E 00 01
   pub j : (code : List ℕ) → length code ≡ 3
       → (emitOf (live 0 0 0) (loadOp 3) (loadOperand 3) [] code [] ≡ outcome (R.Accepted (live 1 1 0)) (put 0 (0x0C ∷ []) code) [])
@@ -146,6 +152,7 @@ pub record Examples : Type 0 where
       × (emitOf (live 0 0 0) (loadOp 255) (loadOperand 255) [] code [] ≡ outcome (R.Accepted (live 1 2 0)) (put 0 (0x0D ∷ 0xFF ∷ []) code) [])
       × (emitOf (live 0 0 0) (loadOp 256) (loadOperand 256) [] code [] ≡ outcome (R.Accepted (live 1 3 0)) (put 0 (0x0E ∷ 0x00 ∷ 0x01 ∷ []) code) [])
   -- K: 23
-  pub k : Checks code-k from-zero (C.Refused NoDepths) (65536 ∷ 65536 ∷ 65536 ∷ 65536 ∷ 65536 ∷ []) × (numberOf NoDepths ≡ 23)
+  pub k : Checks code-k from-zero (C.Refused NoDepths) (65536 ∷ 65536 ∷ 65536 ∷ 65536 ∷ 65536 ∷ [])
+      × (numberOf NoDepths ≡ 23)
   -- L: no bytes, no starts: accepted, count 0
   pub l : Checks [] [] (C.Accepted 0) (65536 ∷ [])

@@ -22,7 +22,8 @@ pub shape-is : (k : ℕ) (s : Shape) → shapeOf k ≡ Is s → (known k ≡ tru
 unfolding shapeOf
 shape-is k s e = go (known k) refl e
   where
-    go : (b : Bool) → known k ≡ b → cond b (Is (shapeIn (rowOf k))) (Refused UnknownOpcode) ≡ Is s → (known k ≡ true) × (shapeIn (rowOf k) ≡ s)
+    go : (b : Bool) → known k ≡ b → cond b (Is (shapeIn (rowOf k))) (Refused UnknownOpcode) ≡ Is s
+        → (known k ≡ true) × (shapeIn (rowOf k) ≡ s)
     go true q e = (q, cc)
     go false q e = clash cc
 
@@ -31,11 +32,13 @@ pub shape-refused : (k : ℕ) (r : Refusal) → shapeOf k ≡ Refused r → (kno
 unfolding shapeOf
 shape-refused k r e = go (known k) refl e
   where
-    go : (b : Bool) → known k ≡ b → cond b (Is (shapeIn (rowOf k))) (Refused UnknownOpcode) ≡ Refused r → (known k ≡ false) × (r ≡ UnknownOpcode)
+    go : (b : Bool) → known k ≡ b → cond b (Is (shapeIn (rowOf k))) (Refused UnknownOpcode) ≡ Refused r
+        → (known k ≡ false) × (r ≡ UnknownOpcode)
     go true q e = clash cc
     go false q e = (q, cc)
 
-pub effect-unknown : (k : ℕ) (o : Operand) (r : Refusal) → shapeOf k ≡ Refused r → E.Refused UnknownOpcode ≡ effectOf k o
+pub effect-unknown : (k : ℕ) (o : Operand) (r : Refusal) → shapeOf k ≡ Refused r
+    → E.Refused UnknownOpcode ≡ effectOf k o
 unfolding effectOf
 effect-unknown k o r e = simp (shape-refused k r e .0)
 
@@ -48,7 +51,8 @@ module _ (k : ℕ) (o : Operand) (s : Shape) (is : shapeOf k ≡ Is s) where
       simp (q .0, ne-eqb (shapeNumber (shapeIn (rowOf k))) (shapeNumber (operandShape o)) (λ e. n (ap shapeNumber (sym (q .1)) ∙ e)))
 
   -- the operand has the opcode's shape
-  pub effect-fits : shapeNumber s ≡ shapeNumber (operandShape o) → effectBy (ruleIn (rowOf k)) (formerOf o) (lastOf o) ≡ effectOf k o
+  pub effect-fits : shapeNumber s ≡ shapeNumber (operandShape o)
+      → effectBy (ruleIn (rowOf k)) (formerOf o) (lastOf o) ≡ effectOf k o
   unfolding effectOf
   effect-fits e =
       let q = shape-is k s is in

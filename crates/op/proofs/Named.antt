@@ -11,7 +11,8 @@ use lib.ListN.{length, getD, take, drop, length-append, List·getD-eq-default}
 use lib.Seq.{take-at, drop-append-add}
 use borrow.Author.Tests.{le-leb, lt-leb}
 use Rattle.op.specs.Opcodes.{Row, op, same, table, rowOf}
-use Rattle.op.specs.Opcodes.{Jump, JumpIfTrue, JumpIfFalse, JumpIfTrueOrPop, JumpIfFalseOrPop, ForIter, Raise, Reraise, ReturnValue, RaiseUnboundLocal, AssertFailed}
+use Rattle.op.specs.Opcodes.{Jump, JumpIfTrue, JumpIfFalse, JumpIfTrueOrPop, JumpIfFalseOrPop, ForIter, Raise}
+use Rattle.op.specs.Opcodes.{Reraise, ReturnValue, RaiseUnboundLocal, AssertFailed}
 use Rattle.op.specs.Chosen.{LoadLocal0, LoadLocal1, LoadLocal2, LoadLocal3, LoadLocal, LoadLocalW, StoreLocal, StoreLocalW}
 use Rattle.op.specs.Chosen.{LoadGlobalCallable, CallBuiltinFunction, CallBuiltinType, CallFunctionKw, CallAttrKw}
 use Rattle.op.specs.Names.{ascii, nameIn, nameOf, joined, begins, nameText, nameStarts, between, nameBy}
@@ -44,7 +45,8 @@ begins-at : (l : List Row) (k i : ℕ) → i ≤ length l → getD (begins k l) 
 begins-at [] k zero h = omega arith
 begins-at [] k (suc i) h = absurd (not-suc-le-zero h)
 begins-at (s ∷ l) k zero h = omega arith
-begins-at (s ∷ l) k (suc i) h = begins-at l (k + length (nameIn s)) i (le-of-suc-le-suc h) ∙ simp length-append (omega arith)
+begins-at (s ∷ l) k (suc i) h =
+    begins-at l (k + length (nameIn s)) i (le-of-suc-le-suc h) ∙ simp length-append (omega arith)
 
 -- no end lies past the text, and an end before its start gives nothing
 pub no-part : (text : List ℕ) (a e : ℕ) → length text < e → [] ≡ between text a e
@@ -57,7 +59,8 @@ pub whole-part : (text : List ℕ) (a e : ℕ) → e ≤ length text → take (e
 whole-part text a e h = simp (le-leb e (length text) h)
 
 -- a part whose start and end are a name's
-found : (text name rest : List ℕ) (a e : ℕ) → e ≡ a + length name → drop a text ≡ name ++ rest → e ≤ length text → between text a e ≡ name
+found : (text name rest : List ℕ) (a e : ℕ) → e ≡ a + length name → drop a text ≡ name ++ rest → e ≤ length text
+    → between text a e ≡ name
 found text name rest a e p q h =
     let n : length name ≡ e - a = omega arith in
     sym (whole-part text a e h) ∙ ap (take (e - a)) q ∙ take-at name rest (e - a) n
@@ -67,7 +70,8 @@ pub name-by : (k : ℕ) → k < length table → nameBy nameText nameStarts k �
 unfolding nameText nameStarts nameBy nameOf rowOf
 name-by k h =
     let p = part table k h in
-    let a : getD (begins 0 table) k 0 ≡ length (joined (take k table)) = begins-at table 0 k (omega arith) ∙ zero-add _ in
+    let a : getD (begins 0 table) k 0 ≡ length (joined (take k table)) =
+    begins-at table 0 k (omega arith) ∙ zero-add _ in
     let t : getD (begins 0 table) (k + 1) 0 ≡ length (joined (take (suc k) table)) =
     rw (add-one k) (begins-at table 0 (suc k) (omega arith) ∙ zero-add _) in
     found (joined table) (nameIn (getD table k none)) (joined (drop (suc k) table)) (getD (begins 0 table) k 0) (getD (begins 0 table) (k + 1) 0)

@@ -19,7 +19,8 @@ deepest = 65535
 -- the depth that an effect leads to from d: `low` below 0, 5 above the greatest
 unfoldable pub landing : Refusal → ℕ → Effect → After
 landing low d (E.By up down) =
-    cond (leb down (d + up)) (cond (leb (d + up - down) deepest) (Depth (d + up - down)) (Refused DepthTooLarge)) (Refused low)
+    cond (leb down (d + up)) (cond (leb (d + up - down) deepest) (Depth (d + up - down)) (Refused DepthTooLarge))
+    (Refused low)
 landing low d (E.Refused r) = Refused r
 
 -- line 4: below 0 after falling through (R11)

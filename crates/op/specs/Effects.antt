@@ -9,7 +9,8 @@ use lib.IntN.{subℕ}
 use Rattle.base.specs.Tests.{isIn}
 use Rattle.op.specs.Opcodes.{Rule, minus3, minus2, minus1, same, plus1, plus2, minus-n, one-minus-n, one-minus-2n, n-minus-one, both, minus-both, one-minus-both, extended, format, assert, assert-failed, match-keys}
 use Rattle.op.specs.Opcodes.{Row, op, known, rowOf}
-use Rattle.op.specs.Opcodes.{Jump, JumpIfTrue, JumpIfFalse, JumpIfTrueOrPop, JumpIfFalseOrPop, ForIter, Raise, Reraise, ReturnValue, RaiseUnboundLocal, AssertFailed}
+use Rattle.op.specs.Opcodes.{Jump, JumpIfTrue, JumpIfFalse, JumpIfTrueOrPop, JumpIfFalseOrPop, ForIter, Raise}
+use Rattle.op.specs.Opcodes.{Reraise, ReturnValue, RaiseUnboundLocal, AssertFailed}
 use Rattle.op.specs.Shapes.{shapeNumber, shapeIn, operandShape}
 use Rattle.op.specs.declared.Deadness.{Deadness}
 use Rattle.op.specs.declared.Deadness.the-variants as D

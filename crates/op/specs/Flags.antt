@@ -29,7 +29,8 @@ comparisonNumber NotIn = 9
 abbrev pub comparisons : List AssertFlags
 comparisons =
     F.Valid (C.With Eq) ∷ F.Valid (C.With NotEq) ∷ F.Valid (C.With Lt) ∷ F.Valid (C.With LtE) ∷ F.Valid (C.With Gt) ∷
-    F.Valid (C.With GtE) ∷ F.Valid (C.With Is) ∷ F.Valid (C.With IsNot) ∷ F.Valid (C.With In) ∷ F.Valid (C.With NotIn) ∷ []
+    F.Valid (C.With GtE) ∷ F.Valid (C.With Is) ∷ F.Valid (C.With IsNot) ∷ F.Valid (C.With In) ∷ F.Valid (C.With NotIn)
+    ∷ []
 
 -- "0 means no comparison, 0x10 to 0x19 comparison 0 to 9" (R6)
 abbrev pub flagsOf : Compared → ℕ

@@ -1,7 +1,8 @@
 // What instructions do to the depth of the stack.
 ghost use mathlib.Core.Path.{_≡_};
 ghost use Prim.Native.Nat.{_<_};
-ghost use Rattle.op.specs.Effects.{effectBy, effectOf, takenOf, netOf, Small, deadMaker, deadnessOf, lastOf, formerOf};
+ghost use Rattle.op.specs.Effects.{effectBy, effectOf, takenOf, netOf, Small, deadMaker, deadnessOf, lastOf};
+ghost use Rattle.op.specs.Effects.{formerOf};
 ghost use Rattle.op.specs.Inner.{ruleNo, ruleAt};
 use crate::Deadness;
 use crate::Effect;

@@ -267,7 +267,8 @@ pub const RAISE_FROM: u8 = 130;
 // The last opcode: a number above it is none.
 pub const LAST: u8 = RAISE_FROM;
 
-// All of them in the order of `enum Opcode` in op.rs: a name that stood for another number would stand out of order here.
+// All of them in the order of `enum Opcode` in op.rs: a name that stood for another number would stand out of order
+// here.
 pub fn all() -> [u8; 131]
     ensures { λ r. ⌜ r ≡ opcodeNumbers ⌝ }
 {

@@ -51,7 +51,8 @@ impl<'a> InstructionReader<'a> {
         decoder::step_at(self.code, self.at)
     }
 
-    // Behind the step that was read at its place, which is not read again: behind an instruction that ends in the code, else it stays.
+    // Behind the step that was read at its place, which is not read again: behind an instruction that ends in the
+    // code, else it stays.
     pub fn behind(self, step: Step) -> InstructionReader<'a>
         ensures { λ r. ⌜ (r .code ≡ self .entry .code) × (r .at ≡ afterStep (length (now (self .entry .code))) (self .entry .at) step) ⌝ }
     {

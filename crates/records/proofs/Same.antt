@@ -10,5 +10,6 @@ use Rattle.code.specs.declared.ExceptionEntry.{ExceptionEntry}
 use Rattle.code.specs.declared.Found.{Found}
 use Rattle.code.specs.declared.Handled.{Handled}
 
-pub same-answer : (es : List ExceptionEntry) (x : ℕ) (r : Found) (h : Handled) → r ≡ findFrom es x 0 → h ≡ handlerOf (tableOf es) x → h ≡ flatAnswer r
+pub same-answer : (es : List ExceptionEntry) (x : ℕ) (r : Found) (h : Handled) → r ≡ findFrom es x 0
+    → h ≡ handlerOf (tableOf es) x → h ≡ flatAnswer r
 same-answer es x r h e f = f ∙ records-flat es x ∙ ap flatAnswer (sym e)

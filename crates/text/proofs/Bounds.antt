@@ -18,7 +18,8 @@ use Rattle.code.specs.Tables.{codeLimit}
 use Rattle.code.proofs.Decoding.{Decoded, decoded, names-part}
 use Rattle.code.proofs.Ranges.{InRange, decoded-range}
 use Rattle.text.specs.Decimal.{decimal, wholeText}
-use Rattle.text.specs.Fields.{namesText, callText, frontText, tailText, operandsAt, backText, lineText, faultText, Found, Lean}
+use Rattle.text.specs.Fields.{namesText, callText, frontText, tailText, operandsAt, backText, lineText, faultText}
+use Rattle.text.specs.Fields.{Found, Lean}
 use Rattle.text.specs.Row.{operandColumn, targetOf, targetColumn}
 use Rattle.text.proofs.Decimals.{decimal-short, decimal-fits}
 use Rattle.text.proofs.Names.{names-bound}
@@ -42,7 +43,12 @@ two-short a b h g = omega (arith, length-append (decimal a) (44 ∷ decimal b), 
 
 three-short : (a b c : ℕ) → a < 65536 → b < 65536 → c < 65536 → length (operandColumn (pos a ∷ pos b ∷ pos c ∷ [])) ≤ 17
 three-short a b c h g k =
-    omega (arith, length-append (decimal a) (44 ∷ operandColumn (pos b ∷ pos c ∷ [])), word-short a h, two-short b c g k)
+    omega (
+      arith,
+      length-append (decimal a) (44 ∷ operandColumn (pos b ∷ pos c ∷ [])),
+      word-short a h,
+      two-short b c g k,
+    )
 
 call-short : (p n : ℕ) (s : List ℕ) → p < 256 → n < 256 → length s ≤ 510 → ((i : ℕ) → getD s i 0 < 256) → length (callText p n s) ≤ 1541
 call-short p n s h g l b =
@@ -111,40 +117,43 @@ names-few (O.U16U16U8 a b c) r = omega arith
 pub front-short : (at : ℕ) → at ≤ codeLimit → length (frontText at) ≤ 8
 front-short at h = omega (arith, length-append (decimal at) (9 ∷ []), decimal-short 7 at (omega arith) (omega arith))
 
-module _ (at : ℕ) (o : Operand) (code : List ℕ) (f : Found at o (drop at code)) (bytes : (i : ℕ) → getD code i 0 < 256) where
-  u : List ℕ
-  u = drop at code
+module _ (at : ℕ) (o : Operand) (code : List ℕ) (f : Found at o (drop at code)) (bytes : (i : ℕ) → getD code i 0 < 256)
+  where
+    u : List ℕ
+    u = drop at code
 
-  below : (i : ℕ) → getD (drop at code) i 0 < 256
-  below i = drop-below at code bytes i
+    below : (i : ℕ) → getD (drop at code) i 0 < 256
+    below i = drop-below at code bytes i
 
-  is-decoded : Decoded lastOpcode (drop at code) (f .opcode) o (f .size)
-  is-decoded = decoded lastOpcode at (drop at code) (f .opcode) o (f .size) (f .is)
+    is-decoded : Decoded lastOpcode (drop at code) (f .opcode) o (f .size)
+    is-decoded = decoded lastOpcode at (drop at code) (f .opcode) o (f .size) (f .is)
 
-  ranged : InRange o
-  ranged = decoded-range (drop at code) below (f .opcode) o (f .size) is-decoded
+    ranged : InRange o
+    ranged = decoded-range (drop at code) below (f .opcode) o (f .size) is-decoded
 
-  names-are : namesAt lastOpcode (drop at code) ≡ take (2 * namesIn o) (drop (sizeOf (operandShape o) 0) (drop at code))
-  names-are = names-part lastOpcode (drop at code) (f .opcode) o (f .size) is-decoded
+    names-are : namesAt lastOpcode (drop at code)
+        ≡ take (2 * namesIn o) (drop (sizeOf (operandShape o) 0) (drop at code))
+    names-are = names-part lastOpcode (drop at code) (f .opcode) o (f .size) is-decoded
 
-  few : length (namesAt lastOpcode (drop at code)) ≤ 510
-  few = rw names-are (simp length-take (omega (arith, names-few o ranged)))
+    few : length (namesAt lastOpcode (drop at code)) ≤ 510
+    few = rw names-are (simp length-take (omega (arith, names-few o ranged)))
 
-  in-bytes : (i : ℕ) → getD (namesAt lastOpcode (drop at code)) i 0 < 256
-  in-bytes i = rw names-are (take-below (2 * namesIn o) (drop (sizeOf (operandShape o) 0) (drop at code)) (drop-below (sizeOf (operandShape o) 0) (drop at code) below) i)
+    in-bytes : (i : ℕ) → getD (namesAt lastOpcode (drop at code)) i 0 < 256
+    in-bytes i = rw names-are (take-below (2 * namesIn o) (drop (sizeOf (operandShape o) 0) (drop at code))
+        (drop-below (sizeOf (operandShape o) 0) (drop at code) below) i)
 
-  pub lean : Lean at o (drop at code)
-  lean = record {
-    low = f .low;
-    back =
-        omega (
-          arith,
-          length-append (operandsAt o (drop at code)) (tailText at o),
-          length-append (targetColumn (targetOf at o)) (10 ∷ []),
-          operands-short (drop at code) few in-bytes o ranged,
-          target-short at o (f .low) ranged,
-        );
-  }
+    pub lean : Lean at o (drop at code)
+    lean = record {
+      low = f .low;
+      back =
+          omega (
+            arith,
+            length-append (operandsAt o (drop at code)) (tailText at o),
+            length-append (targetColumn (targetOf at o)) (10 ∷ []),
+            operands-short (drop at code) few in-bytes o ranged,
+            target-short at o (f .low) ranged,
+          );
+    }
 
 -- all of a line but its name
 pub line-short : (at : ℕ) (o : Operand) (u front name : List ℕ) → Lean at o u → length front ≤ 11

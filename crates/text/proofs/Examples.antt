@@ -16,7 +16,8 @@ use Rattle.text.specs.Listing.{header, faultLine, linesOf, listingOf, mo
 
 pub example : listingOf (0x06 ∷ 0x5A ∷ 0x03 ∷ 0x00 ∷ 0x08 ∷ 0x07 ∷ 0x00 ∷ 0x05 ∷ 0x65 ∷ [])
     ≡ ascii "offset\tname\toperands\ttarget\n0\tLoadTrue\t-\t-\n1\tJumpIfFalse\t3\t7\n4\tLoadSmallInt\t7\t-\n6\tPop\t-\t-\n7\tLoadNone\t-\t-\n8\tReturnValue\t-\t-\n"
-unfolding listingOf linesOf instructionsFrom readUpTo header decode stepIn shapeUpTo operandIn namesAt signed shapeOf sizeOf known rowOf table nameOf decimal upTo
+unfolding listingOf linesOf instructionsFrom readUpTo header decode stepIn shapeUpTo operandIn namesAt signed shapeOf
+    sizeOf known rowOf table nameOf decimal upTo
 example = refl
 
 -- "Of no bytes it is the header alone"
@@ -32,5 +33,6 @@ too-long code h = rw (lt-leb (length code) most h)
 -- a fault, and a keyword call with its count in its place
 pub fault : listingOf (0x00 ∷ 0x53 ∷ 0x03 ∷ 0x02 ∷ 0x01 ∷ 0x00 ∷ 0x02 ∷ 0x00 ∷ 0x58 ∷ 0xF5 ∷ 0xFF ∷ 0x83 ∷ [])
     ≡ ascii "offset\tname\toperands\ttarget\n0\tPop\t-\t-\n1\tCallFunctionKw\t3,2,1,2\t-\n8\tJump\t-11\t0\n!\t11\t1\n"
-unfolding listingOf linesOf instructionsFrom readUpTo header faultLine decode stepIn shapeUpTo operandIn namesAt signed shapeOf sizeOf known rowOf table nameOf decimal upTo
+unfolding listingOf linesOf instructionsFrom readUpTo header faultLine decode stepIn shapeUpTo operandIn namesAt signed
+    shapeOf sizeOf known rowOf table nameOf decimal upTo
 fault = refl

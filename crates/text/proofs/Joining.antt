@@ -26,7 +26,8 @@ use Rattle.text.specs.Fitting.{Line, lineTo, textOf, Part, noLine, onto,
 use Rattle.text.specs.Joined.{Runs, ends, goes, Joins}
 use Rattle.text.specs.Lines.{columnOf, endLine, endLines, spotsThen, stopLines, readLines, linesFrom, linesAt}
 use Rattle.text.specs.Lines.{listedCode, plainLines, checkedHeader, checkedLines, checkedListingOf}
-use Rattle.text.specs.Listing.{most, faultLine, firstLine, spotLine, spotLines, stopLine, lineOf, linesOf, listingOf, restOf}
+use Rattle.text.specs.Listing.{most, faultLine, firstLine, spotLine, spotLines, stopLine, lineOf, linesOf}
+use Rattle.text.specs.Listing.{listingOf, restOf}
 use Rattle.text.specs.declared.Listed.{Listed}
 use Rattle.text.specs.declared.Listed.the-variants as L
 use Rattle.text.proofs.Pieces.{from-line, from-end, from-fault, fit-line, fit-full, fit-none}
@@ -47,7 +48,8 @@ module _ (lines : ℕ → List Line) (follows : Follows lines) where
     most : length (lines (p .next)) ≤ length ls
     all : p .full ≡ false → lines (p .next) ≡ []
 
-  nothing : (room cursor : ℕ) (ls : List Line) → lines cursor ≡ ls → (full : Bool) → (full ≡ false → ls ≡ []) → Leaves room ls (noLine cursor full)
+  nothing : (room cursor : ℕ) (ls : List Line) → lines cursor ≡ ls → (full : Bool) → (full ≡ false → ls ≡ [])
+      → Leaves room ls (noLine cursor full)
   nothing room cursor ls e full empty = record {
     fits = omega arith;
     rest = ap textOf (sym e);
@@ -56,14 +58,16 @@ module _ (lines : ℕ → List Line) (follows : Follows lines) where
     all = λ f. e ∙ empty f;
   }
 
-  by-room : (room cursor : ℕ) (l : Line) (ls : List Line) → lines cursor ≡ l ∷ ls → Leaves (room - length (l .text)) ls (fit (room - length (l .text)) (l .next) ls)
+  by-room : (room cursor : ℕ) (l : Line) (ls : List Line) → lines cursor ≡ l ∷ ls
+      → Leaves (room - length (l .text)) ls (fit (room - length (l .text)) (l .next) ls)
       → (b : Bool) → leb (length (l .text)) room ≡ b → Leaves room (l ∷ ls) (fit room cursor (l ∷ ls))
   by-room room cursor l ls e i true h =
       let k = leb-true (length (l .text)) room h in
       let more = fit (room - length (l .text)) (l .next) ls in
       subst (Leaves room (l ∷ ls)) (sym (fit-line room cursor l ls k)) (record {
         fits = omega (arith, k, i .fits, length-append (l .text) (more .text));
-        rest = ap (λ (t : List ℕ). l .text ++ t) (i .rest) ∙ sym (append-assoc (l .text) (more .text) (textOf (lines (more .next))));
+        rest = ap (λ (t : List ℕ). l .text ++ t) (i .rest)
+            ∙ sym (append-assoc (l .text) (more .text) (textOf (lines (more .next))));
         fewer = λ z. omega (arith, i .most);
         most = omega (arith, i .most);
         all = i .all;
@@ -72,8 +76,10 @@ module _ (lines : ℕ → List Line) (follows : Follows lines) where
       subst (Leaves room (l ∷ ls)) (sym (fit-full room cursor l ls (leb-false (length (l .text)) room h))) (nothing room cursor (l ∷ ls) e true (λ f. let y : _≡_ {A = ℕ} 0 1 = cc in let z : ⊥ = omega arith in absurd z))
 
   leaves : (room cursor : ℕ) (ls : List Line) → lines cursor ≡ ls → Leaves room ls (fit room cursor ls)
-  leaves room cursor [] e = subst (Leaves room []) (sym (fit-none room cursor)) (nothing room cursor [] e false (λ f. refl))
-  leaves room cursor (l ∷ ls) e = by-room room cursor l ls e (leaves (room - length (l .text)) (l .next) ls (follows cursor l ls e)) (leb (length (l .text)) room) refl
+  leaves room cursor [] e =
+      subst (Leaves room []) (sym (fit-none room cursor)) (nothing room cursor [] e false (λ f. refl))
+  leaves room cursor (l ∷ ls) e = by-room room cursor l ls e
+      (leaves (room - length (l .text)) (l .next) ls (follows cursor l ls e)) (leb (length (l .text)) room) refl
 
   -- what an answer says of the part
   module _ (cursor : ℕ) (old : List ℕ) (n next : ℕ) (a : listedOf (lines cursor) cursor old ≡ L.Part n next) where
@@ -83,7 +89,8 @@ module _ (lines : ℕ → List Line) (follows : Follows lines) where
     said : (size : ℕ) (p : Part) → saidOf size p ≡ L.Part n next → (n ≡ size) × (next ≡ p .next)
     said size p e = by (leb 1 size) (p .full) e
       where
-        by : (b f : Bool) → cond b (L.Part size (p .next)) (cond f (L.Refused (Full Text)) (L.Part size (p .next))) ≡ L.Part n next → (n ≡ size) × (next ≡ p .next)
+        by : (b f : Bool) → cond b (L.Part size (p .next)) (cond f (L.Refused (Full Text)) (L.Part size (p .next)))
+            ≡ L.Part n next → (n ≡ size) × (next ≡ p .next)
         by true f e = (cc, cc)
         by false true e = let y : _≡_ {A = ℕ} 0 1 = cc in let z : ⊥ = omega arith in absurd z
         by false false e = (cc, cc)
@@ -96,7 +103,8 @@ module _ (lines : ℕ → List Line) (follows : Follows lines) where
     unfolding listedIn
     put =
         let l = leaves (length old) cursor (lines cursor) refl in
-        rw (is .0) (front-text {old = old} {text = part .text} {out = sets old 0 (part .text)} {e = length (part .text)} (record { next-is = omega arith; out-is = refl }) (l .fits))
+        rw (is .0) (front-text {old = old} {text = part .text} {out = sets old 0 (part .text)}
+        {e = length (part .text)} (record { next-is = omega arith; out-is = refl }) (l .fits))
 
     pub left : textOf (lines cursor) ≡ take n (listedIn (lines cursor) cursor old) ++ textOf (lines next)
     left = leaves (length old) cursor (lines cursor) refl .rest ∙ sym (rw (put, is .1))
@@ -110,7 +118,8 @@ module _ (lines : ℕ → List Line) (follows : Follows lines) where
     full : (size : ℕ) (p : Part) → saidOf size p ≡ L.Part n next → size ≡ 0 → p .full ≡ false
     full size p e z = by (p .full) refl (sym (rw (lt-leb 1 size (omega arith))) ∙ e)
       where
-        by : (f : Bool) → p .full ≡ f → cond f (L.Refused (Full Text)) (L.Part size (p .next)) ≡ L.Part n next → p .full ≡ false
+        by : (f : Bool) → p .full ≡ f → cond f (L.Refused (Full Text)) (L.Part size (p .next)) ≡ L.Part n next
+            → p .full ≡ false
         by true q e = let y : _≡_ {A = ℕ} 0 1 = cc in let z : ⊥ = omega arith in absurd z
         by false q e = q
 
@@ -122,7 +131,9 @@ module _ (lines : ℕ → List Line) (follows : Follows lines) where
 
   joined : (cursor : ℕ) (text : List ℕ) → Runs lines cursor text → text ≡ textOf (lines cursor)
   joined _ _ (ends cursor e) = sym (ap textOf e)
-  joined _ _ (goes cursor old n next text′ a r) = ap (λ (t : List ℕ). take n (listedIn (lines cursor) cursor old) ++ t) (joined next text′ r) ∙ sym (left cursor old n next a)
+  joined _ _ (goes cursor old n next text′ a r) =
+      ap (λ (t : List ℕ). take n (listedIn (lines cursor) cursor old) ++ t) (joined next text′ r)
+      ∙ sym (left cursor old n next a)
 
 -- the head and the rest of equal lines
 abbrev nextOf : List Line → ℕ
@@ -148,7 +159,8 @@ module _ (first depths code : List ℕ) (cells : length depths ≤ suc (length c
       from-end depths code at (decode-past lastOpcode at code (omega arith))
       ∙ rw (lt-leb (suc at) (length depths) (omega (arith, cells)))
 
-  end-is : (at : ℕ) → endLines depths at ≡ cond (ltb at (length depths)) (lineTo (columnOf depths at ++ endLine at) (suc (suc at)) ∷ []) []
+  end-is : (at : ℕ) → endLines depths at ≡ cond (ltb at (length depths))
+      (lineTo (columnOf depths at ++ endLine at) (suc (suc at)) ∷ []) []
   unfolding endLines
   end-is at = refl
 
@@ -157,24 +169,29 @@ module _ (first depths code : List ℕ) (cells : length depths ≤ suc (length c
   ended at d = omega (arith, length-drop at code, decode-end lastOpcode at (drop at code) d)
 
   -- a line that is the last
-  last : (at : ℕ) (text : List ℕ) (end : ℕ) (l : Line) (ls : List Line) → length code < end → lineTo text (suc end) ∷ [] ≡ l ∷ ls
+  last : (at : ℕ) (text : List ℕ) (end : ℕ) (l : Line) (ls : List Line) → length code < end
+      → lineTo text (suc end) ∷ [] ≡ l ∷ ls
       → linesAt first depths code (l .next) ≡ ls
   last at text end l ls h e = ap (λ (m : ℕ). linesAt first depths code m) (sym (cons-next e)) ∙ past end h ∙ cons-rest e
 
-  at-end : (at : ℕ) (l : Line) (ls : List Line) → length code ≤ at → (b : Bool) → cond b (lineTo (columnOf depths at ++ endLine at) (suc (suc at)) ∷ []) [] ≡ l ∷ ls
+  at-end : (at : ℕ) (l : Line) (ls : List Line) → length code ≤ at → (b : Bool)
+      → cond b (lineTo (columnOf depths at ++ endLine at) (suc (suc at)) ∷ []) [] ≡ l ∷ ls
       → linesAt first depths code (l .next) ≡ ls
   at-end at l ls h true e = last at (columnOf depths at ++ endLine at) (suc at) l ls (omega arith) e
   at-end at l ls h false e = let z : ⊥ = omega (arith, ap length e) in absurd z
 
-  by-step : (at : ℕ) (l : Line) (ls : List Line) (s : Step) → decode lastOpcode at (drop at code) ≡ s → linesFrom depths code at ≡ l ∷ ls
+  by-step : (at : ℕ) (l : Line) (ls : List Line) (s : Step) → decode lastOpcode at (drop at code) ≡ s
+      → linesFrom depths code at ≡ l ∷ ls
       → linesAt first depths code (l .next) ≡ ls
   by-step at l ls (S.Instr k o z) d e =
       let f = sym (from-line depths code at k o z d) ∙ e in
       ap (λ (m : ℕ). linesAt first depths code m) (sym (cons-next f)) ∙ cons-rest f
-  by-step at l ls S.End d e = at-end at l ls (ended at d) (ltb at (length depths)) (sym (end-is at) ∙ sym (from-end depths code at d) ∙ e)
+  by-step at l ls S.End d e =
+      at-end at l ls (ended at d) (ltb at (length depths)) (sym (end-is at) ∙ sym (from-end depths code at d) ∙ e)
   by-step at l ls (S.Refused r) d e =
       let here = faulted at (drop at code) r d in
-      last at (lineOf nameOf at (drop at code)) (suc (at + length (drop at code))) l ls (omega (arith, here, length-drop at code)) (sym (from-fault depths code at r d) ∙ e)
+      last at (lineOf nameOf at (drop at code)) (suc (at + length (drop at code))) l ls
+      (omega (arith, here, length-drop at code)) (sym (from-fault depths code at r d) ∙ e)
 
   follows : Follows (linesAt first depths code)
   follows zero l ls e = ap (λ (m : ℕ). linesAt first depths code m) (sym (cons-next e)) ∙ cons-rest e
@@ -186,7 +203,8 @@ plain-spots : (spots : List Spot) (more : List Line) → textOf (spotsThen [] sp
 plain-spots [] more = refl
 plain-spots (spot ∷ spots) more =
     let here = spotLine nameOf spot in
-    ap (λ (c : List ℕ). (c ++ here) ++ textOf (spotsThen [] spots more)) (sym (column-past [] (spot .offset) (omega arith)))
+    ap (λ (c : List ℕ). (c ++ here) ++ textOf (spotsThen [] spots more))
+    (sym (column-past [] (spot .offset) (omega arith)))
     ∙ ap (λ (t : List ℕ). here ++ t) (plain-spots spots more)
     ∙ sym (append-assoc here (spotLines spots) (textOf more))
 
@@ -223,17 +241,21 @@ plain-follows code = follows (firstLine (length code)) [] (listedCode code) (ome
 
 checked-follows : (code depths : List ℕ) → Follows (checkedLines code depths)
 unfolding checkedLines
-checked-follows code depths = follows checkedHeader (take (suc (length code)) depths) code (simp length-take (omega arith))
+checked-follows code depths =
+    follows checkedHeader (take (suc (length code)) depths) code (simp length-take (omega arith))
 
 pub plain-left : (code old : List ℕ) (cursor n next : ℕ) → listedOf (plainLines code cursor) cursor old ≡ L.Part n next
-    → textOf (plainLines code cursor) ≡ take n (listedIn (plainLines code cursor) cursor old) ++ textOf (plainLines code next)
+    → textOf (plainLines code cursor) ≡ take n (listedIn (plainLines code cursor) cursor old)
+    ++ textOf (plainLines code next)
 plain-left code old cursor n next a = left (plainLines code) (plain-follows code) cursor old n next a
 
-pub plain-fits : (code old : List ℕ) (cursor n next : ℕ) → listedOf (plainLines code cursor) cursor old ≡ L.Part n next → n ≤ length old
+pub plain-fits : (code old : List ℕ) (cursor n next : ℕ) → listedOf (plainLines code cursor) cursor old ≡ L.Part n next
+    → n ≤ length old
 plain-fits code old cursor n next a = fits (plainLines code) (plain-follows code) cursor old n next a
 
 -- an empty part is the end
-pub plain-all : (code old : List ℕ) (cursor n next : ℕ) → listedOf (plainLines code cursor) cursor old ≡ L.Part n next → n ≡ 0 → plainLines code next ≡ []
+pub plain-all : (code old : List ℕ) (cursor n next : ℕ) → listedOf (plainLines code cursor) cursor old ≡ L.Part n next
+    → n ≡ 0 → plainLines code next ≡ []
 plain-all code old cursor n next a z = all (plainLines code) (plain-follows code) cursor old n next a z
 
 pub joins : Joins

@@ -40,7 +40,8 @@ pub line-of : (name : ℕ → List ℕ) (at : ℕ) (u : List ℕ) (k : ℕ) (o :
     → decode lastOpcode at u ≡ S.Instr k o z → lineOf name at u ≡ lineText at (name k) o u
 unfolding lineOf
 line-of name at u k o z e =
-    ap (λ (s : Step). lineBy name at u s) e ∙ sym (regrouped (decimal at) (name k) (operandsAt o u) (targetColumn (targetOf at o)))
+    ap (λ (s : Step). lineBy name at u s) e
+    ∙ sym (regrouped (decimal at) (name k) (operandsAt o u) (targetColumn (targetOf at o)))
 
 -- with op's names it is the text of a row
 pub line-row : (at : ℕ) (u : List ℕ) (k : ℕ) (o : Operand) (z : ℕ) → decode lastOpcode at u ≡ S.Instr k o z
@@ -65,7 +66,8 @@ end-of at u = regrouped (decimal at) (ascii "end") (operandsAt O.None u) (target
 -- where an instruction is found
 pub found : (code : List ℕ) (at k : ℕ) (o : Operand) (z : ℕ) → length code ≤ codeLimit
     → decode lastOpcode at (drop at code) ≡ S.Instr k o z → Found at o (drop at code)
-found code at k o z h e = record { opcode = k; size = z; is = e; low = omega (arith, decoded-ends lastOpcode at code k o z e) }
+found code at k o z h e =
+    record { opcode = k; size = z; is = e; low = omega (arith, decoded-ends lastOpcode at code k o z e) }
 
 -- the first line
 pub first-header : (size : ℕ) → size ≤ most → header ≡ firstLine size

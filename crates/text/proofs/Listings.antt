@@ -14,7 +14,8 @@ use Rattle.op.specs.declared.Refusal.the-variants.{Full, TooLarge, ShortDepths}
 use Rattle.op.specs.declared.Table.the-variants.{Text}
 use Rattle.code.specs.Tables.{codeLimit}
 use Rattle.text.specs.Fitting.{lineTo, fit, listedOf, listedIn, Lists}
-use Rattle.text.specs.Lines.{linesFrom, linesAt, listedCode, plainLines, checkedHeader, checkedLines, ListsChecked}
+use Rattle.text.specs.Lines.{linesFrom, linesAt, listedCode, plainLines, checkedHeader, checkedLines}
+use Rattle.text.specs.Lines.{ListsChecked}
 use Rattle.text.specs.Listing.{most, firstLine}
 use Rattle.text.specs.Progress.{Goes}
 use Rattle.text.specs.Put.{Places, placedOf, written}
@@ -31,7 +32,8 @@ pub lists-full : (first depths code : List ℕ) {old out : List ℕ} {r : Refusa
 unfolding listedOf listedIn placedOf written
 lists-full first depths code {old} {out} {r} p = by (leb (length first) (length old - 0)) refl (p .answers) (p .cells)
   where
-    by : (b : Bool) → leb (length first) (length old - 0) ≡ b → P.Refused r ≡ cond b (P.Behind (0 + length first)) (P.Refused (Full Text))
+    by : (b : Bool) → leb (length first) (length old - 0) ≡ b
+        → P.Refused r ≡ cond b (P.Behind (0 + length first)) (P.Refused (Full Text))
         → out ≡ cond b (sets old 0 first) old → Lists (linesAt first depths code 0) 0 old (L.Refused (Full Text)) out
     by true t e o = let y : _≡_ {A = ℕ} 0 1 = cc in let z : ⊥ = omega arith in absurd z
     by false t e o =
@@ -53,11 +55,17 @@ listed-is code size e = by (leb (length code) most) refl e
   where
     by : (b : Bool) → leb (length code) most ≡ b → size ≡ cond b (length code) 0
         → (take size code ≡ cond b code []) × (size ≤ length code) × (length (take size code) ≤ most)
-    by true t e = rw e (take-length code, omega arith, omega (arith, ap length (take-length code), leb-true (length code) most t))
+    by true t e = rw e (
+      take-length code,
+      omega arith,
+      omega (arith, ap length (take-length code), leb-true (length code) most t),
+    )
     by false t e = rw e (refl, omega arith, omega arith)
 
-module _ (code : List ℕ) {old out : List ℕ} {answer : Listed} (from size : ℕ) (s : size ≡ cond (leb (length code) most) (length code) 0) where
-  pub plain-first : {mid : List ℕ} {to : ℕ} → from ≡ 0 → Places old 0 (firstLine (length code)) (P.Behind to) mid → Goes [] (take size code) 0 mid to answer out
+module _ (code : List ℕ) {old out : List ℕ} {answer : Listed} (from size : ℕ)
+    (s : size ≡ cond (leb (length code) most) (length code) 0) where
+  pub plain-first : {mid : List ℕ} {to : ℕ} → from ≡ 0 → Places old 0 (firstLine (length code)) (P.Behind to) mid
+      → Goes [] (take size code) 0 mid to answer out
       → Lists (plainLines code from) from old answer out
   unfolding plainLines
   plain-first {mid} {to} z p g =
@@ -67,7 +75,8 @@ module _ (code : List ℕ) {old out : List ℕ} {answer : Listed} (from size : �
   unfolding plainLines
   plain-on h g = lists-behind (firstLine (length code)) [] (listedCode code) from h (subst (λ (c : List ℕ). Goes [] c (from - 1) old 0 answer out) (listed-is code size s .0) g)
 
-pub plain-full : (code : List ℕ) {old out : List ℕ} {r : Refusal} (from : ℕ) → from ≡ 0 → Places old 0 (firstLine (length code)) (P.Refused r) out
+pub plain-full : (code : List ℕ) {old out : List ℕ} {r : Refusal} (from : ℕ) → from ≡ 0
+    → Places old 0 (firstLine (length code)) (P.Refused r) out
     → Lists (plainLines code from) from old (L.Refused (Full Text)) out
 unfolding plainLines
 plain-full code from z p = rw z (lists-full (firstLine (length code)) [] (listedCode code) p)
@@ -77,24 +86,28 @@ module _ (code depths : List ℕ) {old : List ℕ} (from : ℕ) where
   pub checked-large : codeLimit < length code → ListsChecked code depths from old (L.Refused TooLarge) old
   checked-large h = let e = lt-leb (length code) codeLimit h in record { answers = rw e; cells = rw e }
 
-  pub checked-short : length code ≤ codeLimit → length depths ≤ length code → ListsChecked code depths from old (L.Refused ShortDepths) old
+  pub checked-short : length code ≤ codeLimit → length depths ≤ length code
+      → ListsChecked code depths from old (L.Refused ShortDepths) old
   checked-short h g =
       let e = le-leb (length code) codeLimit h in
       let f : ltb (length code) (length depths) ≡ false = lt-leb (suc (length code)) (length depths) (omega arith) in
       record { answers = rw (e, f); cells = rw (e, f) }
 
   module _ (h : length code ≤ codeLimit) (g : length code < length depths) where
-    listed : {answer : Listed} {out : List ℕ} → Lists (checkedLines code depths from) from old answer out → ListsChecked code depths from old answer out
+    listed : {answer : Listed} {out : List ℕ} → Lists (checkedLines code depths from) from old answer out
+        → ListsChecked code depths from old answer out
     listed l =
         let e = le-leb (length code) codeLimit h in
         let f : ltb (length code) (length depths) ≡ true = le-leb (suc (length code)) (length depths) g in
         record { answers = rw (e, f) (l .answers); cells = rw (e, f) (l .cells) }
 
-    pub checked-full : {out : List ℕ} {r : Refusal} → from ≡ 0 → Places old 0 checkedHeader (P.Refused r) out → ListsChecked code depths from old (L.Refused (Full Text)) out
+    pub checked-full : {out : List ℕ} {r : Refusal} → from ≡ 0 → Places old 0 checkedHeader (P.Refused r) out
+        → ListsChecked code depths from old (L.Refused (Full Text)) out
     unfolding checkedLines
     checked-full z p = listed (rw z (lists-full checkedHeader (take (suc (length code)) depths) code p))
 
-    pub checked-first : {answer : Listed} {mid out : List ℕ} {to : ℕ} → from ≡ 0 → Places old 0 checkedHeader (P.Behind to) mid
+    pub checked-first : {answer : Listed} {mid out : List ℕ} {to : ℕ} → from ≡ 0
+        → Places old 0 checkedHeader (P.Behind to) mid
         → Goes (take (suc (length code)) depths) code 0 mid to answer out → ListsChecked code depths from old answer out
     unfolding checkedLines
     checked-first z p q = listed (rw z (lists-first p q))

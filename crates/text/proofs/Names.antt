@@ -32,12 +32,14 @@ two-cells s i h =
     ∙ ap (λ (k : ℕ). getD s i 0 ∷ getD s (i + 1) 0 ∷ drop k s) e
 
 -- two are left
-pub names-more : (s : List ℕ) (i : ℕ) → 2 ≤ length s - i → namesText (drop i s) ≡ (44 ∷ decimal (wordAt s i)) ++ namesText (drop (i + 2) s)
+pub names-more : (s : List ℕ) (i : ℕ) → 2 ≤ length s - i
+    → namesText (drop i s) ≡ (44 ∷ decimal (wordAt s i)) ++ namesText (drop (i + 2) s)
 names-more s i h = ap namesText (two-cells s i h)
 
 -- the loop's turn, and its end
 pub names-turn : {old out text : List ℕ} {at o : ℕ} (s : List ℕ) (i w : ℕ) → 2 ≤ length s - i → w ≡ wordAt s i
-    → Left old at text o out (namesText (drop i s)) → Left old at text o out ((44 ∷ decimal w) ++ namesText (drop (i + 2) s))
+    → Left old at text o out (namesText (drop i s))
+    → Left old at text o out ((44 ∷ decimal w) ++ namesText (drop (i + 2) s))
 names-turn s i w h e l = rw e (rw (names-more s i h) at l)
 
 pub names-done : {old out text : List ℕ} {at o : ℕ} (s : List ℕ) (i : ℕ) → length s - i < 2

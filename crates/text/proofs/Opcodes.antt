@@ -1,4 +1,5 @@
--- Each name is its opcode's alone, and has no character below `0`, so no separator: one computed test over the table for each.
+-- Each name is its opcode's alone, and has no character below `0`, so no separator: one computed test over the table
+-- for each.
 -- Assumes nothing.
 use mathlib.Core.Path.{_≡_, refl, ap}
 use mathlib.Core.Bool.{Bool, true, false, cond, _&&_}
@@ -66,7 +67,8 @@ place-at (s ∷ l) t (suc k) h =
     let p = eqb→eq (place l (nameIn s)) (length l) (and-left (eqb (place l (nameIn s)) (length l)) (apart l) t) in
     go (same (nameIn s) (nameIn (getD l k default))) refl ih p
   where
-    go : (b : Bool) → same (nameIn s) (nameIn (getD l k default)) ≡ b → place l (nameIn (getD l k default)) ≡ k → place l (nameIn s) ≡ length l
+    go : (b : Bool) → same (nameIn s) (nameIn (getD l k default)) ≡ b → place l (nameIn (getD l k default)) ≡ k
+        → place l (nameIn s) ≡ length l
         → cond b 0 (suc (place l (nameIn (getD l k default)))) ≡ suc k
     go true e ih p =
         let q = ap (place l) (yes-same (nameIn s) (nameIn (getD l k default)) e) in
@@ -77,7 +79,8 @@ place-is : (l : List Row) (t : List ℕ) → place l t < length l → nameIn (ge
 place-is [] t h = absurd (not-suc-le-zero h)
 place-is (s ∷ l) t h = go (same (nameIn s) t) refl h (λ g. place-is l t g)
   where
-    go : (b : Bool) → same (nameIn s) t ≡ b → cond b 0 (suc (place l t)) < suc (length l) → (place l t < length l → nameIn (getD l (place l t) default) ≡ t)
+    go : (b : Bool) → same (nameIn s) t ≡ b → cond b 0 (suc (place l t)) < suc (length l)
+        → (place l t < length l → nameIn (getD l (place l t) default) ≡ t)
         → nameIn (getD (s ∷ l) (cond b 0 (suc (place l t))) default) ≡ t
     go true e h f = yes-same (nameIn s) t e
     go false e h f = f (le-of-suc-le-suc h)

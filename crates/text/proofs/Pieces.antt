@@ -58,7 +58,8 @@ pub fit-line : (room cursor : ℕ) (l : Line) (ls : List Line) → length (l .te
 unfolding fit
 fit-line room cursor l ls h = rw (le-leb (length (l .text)) room h)
 
-pub fit-full : (room cursor : ℕ) (l : Line) (ls : List Line) → room < length (l .text) → fit room cursor (l ∷ ls) ≡ noLine cursor true
+pub fit-full : (room cursor : ℕ) (l : Line) (ls : List Line) → room < length (l .text)
+    → fit room cursor (l ∷ ls) ≡ noLine cursor true
 unfolding fit
 fit-full room cursor l ls h = rw (lt-leb (length (l .text)) room h)
 
@@ -68,4 +69,5 @@ fit-none room cursor = refl
 
 -- a text in front of a text in front of a part
 pub onto-onto : (a b : List ℕ) (p : Part) → onto a (onto b p) ≡ onto (a ++ b) p
-onto-onto a b p = ap (λ (t : List ℕ). record { text = t; next = p .next; full = p .full }) (sym (append-assoc a b (p .text)))
+onto-onto a b p = ap (λ (t : List ℕ). record { text = t; next = p .next; full = p .full })
+    (sym (append-assoc a b (p .text)))

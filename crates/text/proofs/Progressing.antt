@@ -28,7 +28,8 @@ use Rattle.text.specs.Fitting.{Line, lineTo, Part, noLine, onto, fit, sa
 use Rattle.text.specs.Lines.{depthText, columnOf, endLine, endLines, linesFrom, linesAt}
 use Rattle.text.specs.Fields.{lineText, Lean}
 use Rattle.text.specs.Listing.{faultLine, lineOf}
-use Rattle.text.specs.Progress.{wentBy, stepText, stepNext, stepMore, Steps, Lent, left, turns, Fills, Told, saidBy, Goes}
+use Rattle.text.specs.Progress.{wentBy, stepText, stepNext, stepMore, Steps, Lent, left, turns, Fills, Told}
+use Rattle.text.specs.Progress.{saidBy, Goes}
 use Rattle.text.specs.Put.{Put, Places, placedOf, written}
 use Rattle.text.specs.declared.lister.Progress.{Progress}
 use Rattle.text.specs.declared.Listed.{Listed}
@@ -48,7 +49,8 @@ column-none : (depths : List ℕ) (at : ℕ) → ltb at (length depths) ≡ fals
 unfolding columnOf
 column-none depths at e = rw e
 
-end-some : (depths : List ℕ) (at : ℕ) → ltb at (length depths) ≡ true → endLines depths at ≡ lineTo (columnOf depths at ++ endLine at) (suc (suc at)) ∷ []
+end-some : (depths : List ℕ) (at : ℕ) → ltb at (length depths) ≡ true
+    → endLines depths at ≡ lineTo (columnOf depths at ++ endLine at) (suc (suc at)) ∷ []
 unfolding endLines
 end-some depths at e = rw e
 
@@ -65,11 +67,14 @@ module _ (depths code : List ℕ) (at : ℕ) (old : List ℕ) (to : ℕ) (lent :
   room = length old - to
 
   -- the next line is to be put, and behind it come `rest`: the lines from `next` on where there may be more, else none
-  module _ (text : List ℕ) (next : ℕ) (more : Bool) (rest : List Line) (is : linesFrom depths code at ≡ lineTo text (suc next) ∷ rest)
+  module _ (text : List ℕ) (next : ℕ) (more : Bool) (rest : List Line)
+      (is : linesFrom depths code at ≡ lineTo text (suc next) ∷ rest)
       (near : next ≤ suc (length code)) (on : more ≡ true → (at < next) × (next ≤ length code)) where
     -- it has room
-    put : length text ≤ room → fit (room - length text) (suc next) rest ≡ left depths code (length old) (record { at = next; to = to + length text; more = more; full = false })
-        → Fills depths code at old to (record { at = next; to = to + length text; more = more; full = false }) (sets old to text)
+    put : length text ≤ room → fit (room - length text) (suc next) rest
+        ≡ left depths code (length old) (record { at = next; to = to + length text; more = more; full = false })
+        → Fills depths code at old to (record { at = next; to = to + length text; more = more; full = false })
+        (sets old to text)
     put h e = record {
       text = text;
       puts = record { next-is = refl; out-is = refl };
@@ -90,27 +95,32 @@ module _ (depths code : List ℕ) (at : ℕ) (old : List ℕ) (to : ℕ) (lent :
       far = λ f. refl;
     }
 
-    fewer : (more′ : Bool) → more ≡ more′ → turns code (record { at = next; to = to + length text; more = more′; full = false }) < suc (length code - at)
+    fewer : (more′ : Bool) → more ≡ more′
+        → turns code (record { at = next; to = to + length text; more = more′; full = false }) < suc (length code - at)
     fewer true e = omega (arith, on e)
     fewer false e = omega arith
 
     module _ (after : more ≡ true → next ≡ afterStep (length code) at (decode lastOpcode at (drop at code)))
-        (e : fit (room - length text) (suc next) rest ≡ left depths code (length old) (record { at = next; to = to + length text; more = more; full = false })) where
-      pub by-room : (b : Bool) → leb (length text) room ≡ b
-          → Told depths code at old to (wentBy (cond b (P.Behind (to + length text)) (P.Refused (Full Text))) at to next more) (cond b (sets old to text) old)
-      by-room true h = record { fills = put (leb-true (length text) room h) e; fewer = fewer more refl; next = after }
-      by-room false h = record {
-        fills = kept (leb-false (length text) room h);
-        fewer = omega arith;
-        next = ended;
-      }
+        (e : fit (room - length text) (suc next) rest
+        ≡ left depths code (length old) (record { at = next; to = to + length text; more = more; full = false }))
+      where
+        pub by-room : (b : Bool) → leb (length text) room ≡ b
+            → Told depths code at old to (wentBy (cond b (P.Behind (to + length text)) (P.Refused (Full Text))) at to
+            next more) (cond b (sets old to text) old)
+        by-room true h = record { fills = put (leb-true (length text) room h) e; fewer = fewer more refl; next = after }
+        by-room false h = record {
+          fills = kept (leb-false (length text) room h);
+          fewer = omega arith;
+          next = ended;
+        }
 
-      pub went : Told depths code at old to (wentBy (placedOf old to text) at to next more) (written old to text)
-      unfolding placedOf written
-      went = by-room (leb (length text) room) refl
+        pub went : Told depths code at old to (wentBy (placedOf old to text) at to next more) (written old to text)
+        unfolding placedOf written
+        went = by-room (leb (length text) room) refl
 
   -- no line is left
-  none : linesFrom depths code at ≡ [] → Told depths code at old to (wentBy (placedOf old to []) at to at false) (written old to [])
+  none : linesFrom depths code at ≡ [] → Told depths code at old to (wentBy (placedOf old to []) at to at false)
+      (written old to [])
   unfolding placedOf written
   none is =
       rw (le-leb 0 room (omega arith)) (record {
@@ -127,30 +137,37 @@ module _ (depths code : List ℕ) (at : ℕ) (old : List ℕ) (to : ℕ) (lent :
 
   -- by the cases of the step
   stepped : (s : Step) → decode lastOpcode at (drop at code) ≡ s
-      → Told depths code at old to (wentBy (placedOf old to (stepText (columnOf depths at) at (drop at code) s)) at to (stepNext (columnOf depths at) at (drop at code) s) (stepMore s))
+      → Told depths code at old to (wentBy (placedOf old to (stepText (columnOf depths at) at (drop at code) s)) at to
+      (stepNext (columnOf depths at) at (drop at code) s) (stepMore s))
       (written old to (stepText (columnOf depths at) at (drop at code) s))
   stepped (S.Instr k o z) e =
       let d = decoded-ends lastOpcode at code k o z e in
       let text = columnOf depths at ++ lineOf nameOf at (drop at code) in
       went text (at + z) true (linesFrom depths code (at + z)) (from-line depths code at k o z e) (omega (arith, d)) (λ m. (omega (arith, d), d .1))
-      (λ m. sym (ap (λ (x : Step). afterStep (length code) at x) e ∙ rw (le-leb z (length code - at) (omega (arith, d)))))
+      (λ m. sym (ap (λ (x : Step). afterStep (length code) at x) e
+      ∙ rw (le-leb z (length code - at) (omega (arith, d)))))
       (ap (λ (n : ℕ). fit n (suc (at + z)) (linesFrom depths code (at + z))) (omega arith))
   stepped S.End e = by (ltb at (length depths)) refl
     where
       by : (b : Bool) → ltb at (length depths) ≡ b
-          → Told depths code at old to (wentBy (placedOf old to (stepText (columnOf depths at) at (drop at code) S.End)) at to (stepNext (columnOf depths at) at (drop at code) S.End) false)
+          → Told depths code at old to
+          (wentBy (placedOf old to (stepText (columnOf depths at) at (drop at code) S.End)) at to
+          (stepNext (columnOf depths at) at (drop at code) S.End) false)
           (written old to (stepText (columnOf depths at) at (drop at code) S.End))
       by true p =
           rw (le-leb 1 (length (columnOf depths at)) (column-some depths at p))
-          (went (columnOf depths at ++ endLine at) (suc at) false [] (from-end depths code at e ∙ end-some depths at p) (omega (arith, lent .cells, leb-true (suc at) (length depths) p))
+          (went (columnOf depths at ++ endLine at) (suc at) false [] (from-end depths code at e ∙ end-some depths at p)
+          (omega (arith, lent .cells, leb-true (suc at) (length depths) p))
           ended ended (fit-none (room - length (columnOf depths at ++ endLine at)) (suc (suc at))))
       by false p = rw (column-none depths at p) (none (from-end depths code at e ∙ end-none depths at p))
   stepped (S.Refused r) e =
       let here = faulted at (drop at code) r e in
-      went (lineOf nameOf at (drop at code)) (suc (at + length (drop at code))) false [] (from-fault depths code at r e) (omega (arith, here, length-drop at code))
+      went (lineOf nameOf at (drop at code)) (suc (at + length (drop at code))) false []
+      (from-fault depths code at r e) (omega (arith, here, length-drop at code))
       ended ended (fit-none (room - length (lineOf nameOf at (drop at code))) (suc (suc (at + length (drop at code)))))
 
-  pub told : (s : Step) → decode lastOpcode at (drop at code) ≡ s → (front : List ℕ) → front ≡ columnOf depths at → (p : Progress) (out : List ℕ)
+  pub told : (s : Step) → decode lastOpcode at (drop at code) ≡ s → (front : List ℕ) → front ≡ columnOf depths at
+      → (p : Progress) (out : List ℕ)
       → Steps front code at s old to p out → Told depths code at old to p out
   told s e front c p out t = rw (t .answers, t .cells, c) (stepped s e)
 
@@ -170,15 +187,19 @@ module _ {depths code old out : List ℕ} {at to : ℕ} {p : Progress} (f : Fill
   pub filled-length : length out ≡ length old
   filled-length = ap length (f .puts .out-is) ∙ length-sets old to (f .text)
 
-  pub onward : {q : Progress} {out′ : List ℕ} → p .more ≡ true → Fills depths code (p .at) out (p .to) q out′ → Fills depths code at old to q out′
+  pub onward : {q : Progress} {out′ : List ℕ} → p .more ≡ true → Fills depths code (p .at) out (p .to) q out′
+      → Fills depths code at old to q out′
   onward {q} {out′} m g = record {
     text = f .text ++ g .text;
     puts = then (f .puts) (g .puts);
     fits = omega (arith, g .fits, filled-length);
     part =
         f .part
-        ∙ ap (λ (b : Bool). onto (f .text) (cond b (fit (length old - p .to) (suc (p .at)) (linesFrom depths code (p .at))) (noLine (suc (p .at)) (p .full)))) m
-        ∙ ap (λ (n : ℕ). onto (f .text) (fit (n - p .to) (suc (p .at)) (linesFrom depths code (p .at)))) (sym filled-length)
+        ∙ ap (λ (b : Bool). onto (f .text)
+        (cond b (fit (length old - p .to) (suc (p .at)) (linesFrom depths code (p .at)))
+        (noLine (suc (p .at)) (p .full)))) m
+        ∙ ap (λ (n : ℕ). onto (f .text) (fit (n - p .to) (suc (p .at)) (linesFrom depths code (p .at))))
+        (sym filled-length)
         ∙ ap (λ (x : Part). onto (f .text) x) (g .part)
         ∙ onto-onto (f .text) (g .text) (left depths code (length out) q)
         ∙ ap (λ (n : ℕ). onto (f .text ++ g .text) (left depths code n q)) filled-length;
@@ -186,7 +207,8 @@ module _ {depths code old out : List ℕ} {at to : ℕ} {p : Progress} (f : Fill
   }
 
 -- the next offset has one behind it
-pub near : {depths code old out : List ℕ} {at to : ℕ} {p : Progress} (top : ℕ) → Fills depths code at old to p out → at < top → suc (length code) < top → p .at < top
+pub near : {depths code old out : List ℕ} {at to : ℕ} {p : Progress} (top : ℕ) → Fills depths code at old to p out
+    → at < top → suc (length code) < top → p .at < top
 near {depths} {code} {old} {out} {at} {to} {p} top f h g = by (decLt (suc (length code)) (p .at))
   where
     by : Dec (suc (length code) < p .at) → p .at < top
@@ -194,12 +216,16 @@ near {depths} {code} {old} {out} {at} {to} {p} top f h g = by (decLt (suc (lengt
     by (no far) = omega (arith, g)
 
 -- the lines end
-pub goes : {depths code old out : List ℕ} {at to : ℕ} {p : Progress} → Fills depths code at old to p out → p .more ≡ false → Goes depths code at old to (saidBy p) out
+pub goes : {depths code old out : List ℕ} {at to : ℕ} {p : Progress} → Fills depths code at old to p out
+    → p .more ≡ false → Goes depths code at old to (saidBy p) out
 unfolding saidBy
 goes {depths} {code} {old} {out} {at} {to} {p} f m =
-    let e : fit (length old - to) (suc at) (linesFrom depths code at) ≡ record { text = f .text; next = suc (p .at); full = p .full } =
+    let e : fit (length old - to) (suc at) (linesFrom depths code at)
+    ≡ record { text = f .text; next = suc (p .at); full = p .full } =
     f .part
-    ∙ ap (λ (b : Bool). onto (f .text) (cond b (fit (length old - p .to) (suc (p .at)) (linesFrom depths code (p .at))) (noLine (suc (p .at)) (p .full)))) m
+    ∙ ap (λ (b : Bool). onto (f .text)
+    (cond b (fit (length old - p .to) (suc (p .at)) (linesFrom depths code (p .at)))
+    (noLine (suc (p .at)) (p .full)))) m
     ∙ ap (λ (t : List ℕ). record { text = t; next = suc (p .at); full = p .full }) (append-nil (f .text)) in
     record {
       answers = rw e (ap (λ (n : ℕ). saidOf n (noLine (suc (p .at)) (p .full))) (f .puts .next-is));
@@ -207,7 +233,8 @@ goes {depths} {code} {old} {out} {at} {to} {p} f m =
     }
 
 -- a part from a cursor behind the first line, and from the first
-pub lists-on : {depths code old out : List ℕ} {at : ℕ} {answer : Listed} → Goes depths code at old 0 answer out → Lists (linesFrom depths code at) (suc at) old answer out
+pub lists-on : {depths code old out : List ℕ} {at : ℕ} {answer : Listed} → Goes depths code at old 0 answer out
+    → Lists (linesFrom depths code at) (suc at) old answer out
 unfolding listedOf listedIn
 lists-on {depths} {code} {old} {out} {at} {answer} g =
     let e : length old - 0 ≡ length old = omega arith in
@@ -215,11 +242,13 @@ lists-on {depths} {code} {old} {out} {at} {answer} g =
     let zero-more : 0 + length (part .text) ≡ length (part .text) = omega arith in
     record { answers = rw e at (g .answers) ∙ ap (λ (n : ℕ). saidOf n part) zero-more; cells = rw e at (g .cells) }
 
-placed-fits : (old : List ℕ) (at : ℕ) (text : List ℕ) (e : ℕ) → P.Behind e ≡ placedOf old at text → (e ≡ at + length text) × (length text ≤ length old - at)
+placed-fits : (old : List ℕ) (at : ℕ) (text : List ℕ) (e : ℕ) → P.Behind e ≡ placedOf old at text
+    → (e ≡ at + length text) × (length text ≤ length old - at)
 unfolding placedOf
 placed-fits old at text e q = by (leb (length text) (length old - at)) refl q
   where
-    by : (b : Bool) → leb (length text) (length old - at) ≡ b → P.Behind e ≡ cond b (P.Behind (at + length text)) (P.Refused (Full Text))
+    by : (b : Bool) → leb (length text) (length old - at) ≡ b
+        → P.Behind e ≡ cond b (P.Behind (at + length text)) (P.Refused (Full Text))
         → (e ≡ at + length text) × (length text ≤ length old - at)
     by true t q = (cc, leb-true (length text) (length old - at) t)
     by false t q = let y : _≡_ {A = ℕ} 0 1 = cc in let z : ⊥ = omega arith in absurd z
@@ -232,7 +261,8 @@ placed-within {old} {text} {out} {to} p =
     let m : out ≡ sets old 0 text = p .cells ∙ rw (le-leb (length text) (length old - 0) (h .1)) in
     omega (arith, h, ap length m, length-sets old 0 text)
 
-pub lists-first : {first depths code old mid out : List ℕ} {to : ℕ} {answer : Listed} → Places old 0 first (P.Behind to) mid → Goes depths code 0 mid to answer out
+pub lists-first : {first depths code old mid out : List ℕ} {to : ℕ} {answer : Listed}
+    → Places old 0 first (P.Behind to) mid → Goes depths code 0 mid to answer out
     → Lists (linesAt first depths code 0) 0 old answer out
 unfolding listedOf listedIn written
 lists-first {first} {depths} {code} {old} {mid} {out} {to} {answer} p g =
@@ -242,25 +272,30 @@ lists-first {first} {depths} {code} {old} {mid} {out} {to} {answer} p g =
     let part = fit (length old - length first) 1 (linesFrom depths code 0) in
     let whole : fit (length old) 0 (linesAt first depths code 0) ≡ onto first part =
     fit-line (length old) 0 (lineTo first 1) (linesFrom depths code 0) (omega (arith, h .1)) in
-    let size : to + length (part .text) ≡ length (first ++ part .text) = omega (arith, h .0, length-append first (part .text)) in
+    let size : to + length (part .text) ≡ length (first ++ part .text) =
+    omega (arith, h .0, length-append first (part .text)) in
     record {
       answers = rw whole (rw n at (g .answers) ∙ ap (λ (k : ℕ). saidOf k part) size);
-      cells = rw whole (rw n at (g .cells) ∙ ap (λ (l : List ℕ). sets l to (part .text)) m ∙ ap (λ (k : ℕ). sets (sets old 0 first) k (part .text)) (h .0) ∙ sym (sets-append old 0 first (part .text)));
+      cells = rw whole (rw n at (g .cells) ∙ ap (λ (l : List ℕ). sets l to (part .text)) m
+          ∙ ap (λ (k : ℕ). sets (sets old 0 first) k (part .text)) (h .0) ∙ sym (sets-append old 0 first (part .text)));
     }
 
 -- the line of each step, as it is placed
 module _ (code : List ℕ) (at : ℕ) (front old : List ℕ) (to : ℕ) where
-  pub end-nothing : length front ≡ 0 → Steps front code at S.End old to (record { at = at; to = to; more = false; full = false }) old
+  pub end-nothing : length front ≡ 0 → Steps front code at S.End old to
+      (record { at = at; to = to; more = false; full = false }) old
   unfolding placedOf written
   end-nothing h =
       let e : ltb 0 (length front) ≡ false = lt-leb 1 (length front) (omega arith) in
       let same : to ≡ to + 0 = omega arith in
       record {
-        answers = rw (e, le-leb 0 (length old - to) (omega arith)) (ap (λ (n : ℕ). record { at = at; to = n; more = false; full = false }) same);
+        answers = rw (e, le-leb 0 (length old - to) (omega arith))
+            (ap (λ (n : ℕ). record { at = at; to = n; more = false; full = false }) same);
         cells = rw (e, le-leb 0 (length old - to) (omega arith));
       }
 
-  pub end-placed : {p : Placed} {out : List ℕ} → 0 < length front → Places old to (front ++ lineText at (ascii "end") O.None (drop at code)) p out
+  pub end-placed : {p : Placed} {out : List ℕ} → 0 < length front
+      → Places old to (front ++ lineText at (ascii "end") O.None (drop at code)) p out
       → Steps front code at S.End old to (wentBy p at to (at + 1) false) out
   end-placed {p} {out} h q =
       let e : ltb 0 (length front) ≡ true = le-leb 1 (length front) h in
@@ -271,7 +306,8 @@ module _ (code : List ℕ) (at : ℕ) (front old : List ℕ) (to : ℕ) where
         cells = rw e (rw t at (q .cells));
       }
 
-  pub fault-placed : {p : Placed} {out : List ℕ} (r : Refusal) → decode lastOpcode at (drop at code) ≡ S.Refused r → Places old to (faultLine at r) p out
+  pub fault-placed : {p : Placed} {out : List ℕ} (r : Refusal) → decode lastOpcode at (drop at code) ≡ S.Refused r
+      → Places old to (faultLine at r) p out
       → Steps front code at (S.Refused r) old to (wentBy p at to (length code + 1) false) out
   fault-placed {p} {out} r e q =
       let t = sym (fault-of nameOf at (drop at code) r e) in
@@ -283,7 +319,8 @@ module _ (code : List ℕ) (at : ℕ) (front old : List ℕ) (to : ℕ) where
         cells = rw t at (q .cells);
       }
 
-  pub line-placed : {p : Placed} {out : List ℕ} (k : ℕ) (o : Operand) (z : ℕ) → decode lastOpcode at (drop at code) ≡ S.Instr k o z
+  pub line-placed : {p : Placed} {out : List ℕ} (k : ℕ) (o : Operand) (z : ℕ)
+      → decode lastOpcode at (drop at code) ≡ S.Instr k o z
       → Places old to (front ++ lineText at (nameBy nameText nameStarts k) o (drop at code)) p out
       → Steps front code at (S.Instr k o z) old to (wentBy p at to (at + z) true) out
   line-placed {p} {out} k o z e q =
@@ -305,7 +342,8 @@ column-low depths at h = by (ltb at (length depths)) refl
     by true e = leb-true (suc at) (length depths) e
     by false e = let z : ⊥ = omega (arith, h, ap length (column-none depths at e)) in absurd z
 
-pub column-cell : (depths : List ℕ) (at : ℕ) → at < length depths → depthText (getD depths at 0) ++ (9 ∷ []) ≡ columnOf depths at
+pub column-cell : (depths : List ℕ) (at : ℕ) → at < length depths
+    → depthText (getD depths at 0) ++ (9 ∷ []) ≡ columnOf depths at
 unfolding columnOf
 column-cell depths at h = rw (le-leb (suc at) (length depths) h)
 

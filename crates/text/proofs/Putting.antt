@@ -34,7 +34,8 @@ pub begin : (old : List ℕ) (at : ℕ) (text : List ℕ) → Left old at text a
 begin old at text = record { since = omega arith; ends = refl; cells = refl }
 
 -- a part of it is written
-pub next : {old out out′ text a b : List ℕ} {at o o′ : ℕ} → Left old at text o out (a ++ b) → Put out o a o′ out′ → Left old at text o′ out′ b
+pub next : {old out out′ text a b : List ℕ} {at o o′ : ℕ} → Left old at text o out (a ++ b) → Put out o a o′ out′
+    → Left old at text o′ out′ b
 next {old} {out} {out′} {text} {a} {b} {at} {o} {o′} l p =
     record {
       since = omega (arith, l .since, p .next-is);
@@ -45,7 +46,8 @@ next {old} {out} {out′} {text} {a} {b} {at} {o} {o′} l p =
     }
 
 -- the last of it is written
-pub last : {old out out′ text a : List ℕ} {at o o′ : ℕ} → Left old at text o out a → Put out o a o′ out′ → Put old at text o′ out′
+pub last : {old out out′ text a : List ℕ} {at o o′ : ℕ} → Left old at text o out a → Put out o a o′ out′
+    → Put old at text o′ out′
 last l p = record { next-is = p .next-is ∙ l .ends; out-is = p .out-is ∙ l .cells }
 
 -- the same of an equal text
@@ -53,7 +55,8 @@ pub same-text : {d d′ : List ℕ} {at r : ℕ} {a b : List ℕ} → a ≡ b �
 same-text e p = rw e at p
 
 -- two texts
-pub then : {d d′ d″ : List ℕ} {at r r′ : ℕ} {a b : List ℕ} → Put d at a r d′ → Put d′ r b r′ d″ → Put d at (a ++ b) r′ d″
+pub then : {d d′ d″ : List ℕ} {at r r′ : ℕ} {a b : List ℕ} → Put d at a r d′ → Put d′ r b r′ d″
+    → Put d at (a ++ b) r′ d″
 then {d} {d′} {d″} {at} {r} {r′} {a} {b} p q = last (next (begin d at (a ++ b)) p) q
 
 -- nothing is left
@@ -62,14 +65,17 @@ done {old} {out} {text} {at} {o} l = record { next-is = omega (arith, l .ends); 
 
 -- no cell is added
 pub left-length : {old out text rest : List ℕ} {at o : ℕ} → Left old at text o out rest → length out ≡ length old
-left-length {old} {out} {text} {rest} {at} {o} l = sym (length-sets out o rest) ∙ ap length (l .cells) ∙ length-sets old at text
+left-length {old} {out} {text} {rest} {at} {o} l =
+    sym (length-sets out o rest) ∙ ap length (l .cells) ∙ length-sets old at text
 
 -- room for all is room for what is left
-pub rest-fits : {old out text rest : List ℕ} {at o : ℕ} → Left old at text o out rest → length text ≤ length old - at → length rest ≤ length out - o
+pub rest-fits : {old out text rest : List ℕ} {at o : ℕ} → Left old at text o out rest → length text ≤ length old - at
+    → length rest ≤ length out - o
 rest-fits {old} {out} {text} {rest} {at} {o} l h = omega (arith, l .since, l .ends, left-length l)
 
 -- and for its first part
-pub part-fits : {old out text : List ℕ} {at o : ℕ} (a b : List ℕ) → Left old at text o out (a ++ b) → length text ≤ length old - at → length a ≤ length out - o
+pub part-fits : {old out text : List ℕ} {at o : ℕ} (a b : List ℕ) → Left old at text o out (a ++ b)
+    → length text ≤ length old - at → length a ≤ length out - o
 part-fits a b l h = omega (arith, length-append a b, rest-fits l h)
 
 -- one more byte of s
@@ -88,22 +94,26 @@ front-text {old} {text} {out} {e} p h =
     ∙ take-at text (drop (0 + length text) old) e (omega (arith, p .next-is))
 
 -- a text that fits is placed, and one that does not is refused
-pub places : {old text out : List ℕ} {at e : ℕ} → length text ≤ length old - at → Put old at text e out → Places old at text (Behind e) out
+pub places : {old text out : List ℕ} {at e : ℕ} → length text ≤ length old - at → Put old at text e out
+    → Places old at text (Behind e) out
 unfolding placedOf written
 places {old} {text} {out} {at} {e} h p =
     let t = le-leb (length text) (length old - at) h in
     record { answers = rw t (ap Behind (p .next-is)); cells = rw t (p .out-is) }
 
-pub refuses : (old : List ℕ) (at : ℕ) (text : List ℕ) → length old - at < length text → Places old at text (Refused (Full Text)) old
+pub refuses : (old : List ℕ) (at : ℕ) (text : List ℕ) → length old - at < length text
+    → Places old at text (Refused (Full Text)) old
 unfolding placedOf written
 refuses old at text h = let t = lt-leb (length text) (length old - at) h in record { answers = rw t; cells = rw t }
 
 -- the same of an equal text
-pub same-places : {old text text′ out : List ℕ} {at : ℕ} {p : Placed} → text ≡ text′ → Places old at text p out → Places old at text′ p out
+pub same-places : {old text text′ out : List ℕ} {at : ℕ} {p : Placed} → text ≡ text′ → Places old at text p out
+    → Places old at text′ p out
 same-places {old} {text} {text′} {out} {at} {p} e h = rw e at h
 
 -- the place that is answered is the one behind the text
-pub placed-place : (old : List ℕ) (at : ℕ) (text : List ℕ) (e : ℕ) → Behind e ≡ placedOf old at text → e ≡ at + length text
+pub placed-place : (old : List ℕ) (at : ℕ) (text : List ℕ) (e : ℕ) → Behind e ≡ placedOf old at text
+    → e ≡ at + length text
 unfolding placedOf
 placed-place old at text e q = by (leb (length text) (length old - at)) q
   where

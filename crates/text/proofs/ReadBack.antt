@@ -79,14 +79,18 @@ decimal-value (c ∷ d ∷ t) n =
 
 pub all-append : (f : ℕ → Bool) (a b : List ℕ) → T (all f a) → T (all f b) → T (all f (a ++ b))
 all-append f [] b p q = q
-all-append f (x ∷ a) b p q = and-both (f x) (all f (a ++ b)) (and-left (f x) (all f a) p) (all-append f a b (and-right (f x) (all f a) p) q)
+all-append f (x ∷ a) b p q =
+    and-both (f x) (all f (a ++ b)) (and-left (f x) (all f a) p) (all-append f a b (and-right (f x) (all f a) p) q)
 
 natural-snoc : (t : List ℕ) (d : ℕ) → T (natural t) → (t ≡ 48 ∷ [] → ⊥) → T (digit d) → T (natural (t ++ (d ∷ [])))
 natural-snoc [] d n z h = absurd n
-natural-snoc (c ∷ []) d n z h = and-both (not (eqb c 48)) (all digit (c ∷ d ∷ [])) (ne-T c 48 (λ e. z (ap (λ (x : ℕ). x ∷ []) e))) (all-append digit (c ∷ []) (d ∷ []) (and-both (digit c) true n tt) (and-both (digit d) true h tt))
+natural-snoc (c ∷ []) d n z h = and-both (not (eqb c 48)) (all digit (c ∷ d ∷ []))
+    (ne-T c 48 (λ e. z (ap (λ (x : ℕ). x ∷ []) e)))
+    (all-append digit (c ∷ []) (d ∷ []) (and-both (digit c) true n tt) (and-both (digit d) true h tt))
 natural-snoc (c ∷ e ∷ t) d n z h =
     and-both (not (eqb c 48)) (all digit (c ∷ e ∷ t ++ (d ∷ []))) (and-left (not (eqb c 48)) (all digit (c ∷ e ∷ t)) n)
-    (all-append digit (c ∷ e ∷ t) (d ∷ []) (and-right (not (eqb c 48)) (all digit (c ∷ e ∷ t)) n) (and-both (digit d) true h tt))
+    (all-append digit (c ∷ e ∷ t) (d ∷ []) (and-right (not (eqb c 48)) (all digit (c ∷ e ∷ t)) n)
+    (and-both (digit d) true h tt))
 
 natural-step : (n : ℕ) → T (natural (decimal (n / 10))) → Dec (n < 10) → T (natural (decimal n))
 natural-step n p (yes s) = rw (decimal-small n s) (is-digit (48 + n) (omega arith) (omega arith))

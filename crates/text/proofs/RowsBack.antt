@@ -39,7 +39,11 @@ positive-is (c ∷ t) n = rw (first-digit c t n, T-true (natural (c ∷ t)) n)
 -- a whole number
 pub whole-back : (z : ℤ) → readWhole (wholeText z) ≡ some z
 whole-back (pos n) = positive-is (decimal n) (natural-decimal n) ∙ ap (λ (m : ℕ). some (pos m)) (value-decimal n)
-whole-back (negsuc n) = rw (T-true (natural (decimal (suc n))) (natural-decimal (suc n)), value-decimal (suc n), ne-eqb (suc n) 0 (λ e. omega arith)) (ap (λ (m : ℕ). some (negsuc m)) (omega arith))
+whole-back (negsuc n) = rw (
+  T-true (natural (decimal (suc n))) (natural-decimal (suc n)),
+  value-decimal (suc n),
+  ne-eqb (suc n) 0 (λ e. omega arith),
+) (ap (λ (m : ℕ). some (negsuc m)) (omega arith))
 
 all-back : (zs : List ℤ) → readAll (wholeTexts zs) ≡ some zs
 all-back [] = refl
@@ -48,20 +52,24 @@ all-back (z ∷ zs) = rw (whole-back z, all-back zs)
 -- which characters stand in no field
 all-mono : (f g : ℕ → Bool) → ((x : ℕ) → T (f x) → T (g x)) → (t : List ℕ) → T (all f t) → T (all g t)
 all-mono f g h [] a = tt
-all-mono f g h (x ∷ t) a = and-both (g x) (all g t) (h x (and-left (f x) (all f t) a)) (all-mono f g h t (and-right (f x) (all f t) a))
+all-mono f g h (x ∷ t) a =
+    and-both (g x) (all g t) (h x (and-left (f x) (all f t) a)) (all-mono f g h t (and-right (f x) (all f t) a))
 
 is-other : (s x : ℕ) → (x ≡ s → ⊥) → T (other s x)
 is-other s x n = rw (ne-eqb x s n) tt
 
 free-decimal : (s n : ℕ) → s < 48 → Free s (decimal n)
-free-decimal s n h = all-mono digit (other s) (λ x d. is-other s x (λ e. omega (arith, digit-low x d))) (decimal n) (natural-digits (decimal n) (natural-decimal n))
+free-decimal s n h = all-mono digit (other s) (λ x d. is-other s x (λ e. omega (arith, digit-low x d))) (decimal n)
+    (natural-digits (decimal n) (natural-decimal n))
 
 free-whole : (s : ℕ) (z : ℤ) → s < 45 → Free s (wholeText z)
 free-whole s (pos n) h = free-decimal s n (omega arith)
-free-whole s (negsuc n) h = and-both (other s 45) (all (other s) (decimal (suc n))) (is-other s 45 (λ e. omega arith)) (free-decimal s (suc n) (omega arith))
+free-whole s (negsuc n) h = and-both (other s 45) (all (other s) (decimal (suc n))) (is-other s 45 (λ e. omega arith))
+    (free-decimal s (suc n) (omega arith))
 
 free-name : (s op : ℕ) → s < 48 → op < length table → Free s (nameOf op)
-free-name s op h o = all-mono late (other s) (λ x d. is-other s x (λ e. omega (arith, leb→le 48 x d))) (nameOf op) (names-late op o)
+free-name s op h o = all-mono late (other s) (λ x d. is-other s x (λ e. omega (arith, leb→le 48 x d))) (nameOf op)
+    (names-late op o)
 
 free-wholes : (s : ℕ) (zs : List ℤ) → s < 45 → AllFree s (wholeTexts zs)
 free-wholes s [] h = tt
@@ -76,7 +84,8 @@ free-join s q (p ∷ r ∷ ps) n f =
 
 free-operands : (s : ℕ) (zs : List ℤ) → s < 44 → Free s (operandColumn zs)
 free-operands s [] h = and-both (other s 45) true (is-other s 45 (λ e. omega arith)) tt
-free-operands s (z ∷ zs) h = free-join s 44 (wholeText z ∷ wholeTexts zs) (λ e. omega arith) (free-whole s z (omega arith), free-wholes s zs (omega arith))
+free-operands s (z ∷ zs) h = free-join s 44 (wholeText z ∷ wholeTexts zs) (λ e. omega arith)
+    (free-whole s z (omega arith), free-wholes s zs (omega arith))
 
 free-target : (s : ℕ) (z : Option ℤ) → s < 45 → Free s (targetColumn z)
 free-target s none h = and-both (other s 45) true (is-other s 45 (λ e. omega arith)) tt
@@ -102,7 +111,8 @@ operands-back [] = refl
 operands-back (z ∷ zs) =
     let s = split-join 44 (wholeText z) (wholeTexts zs) (free-whole 44 z (lit< tt), free-wholes 44 zs (lit< tt)) in
     let a = ap readAll s ∙ all-back (z ∷ zs) in
-    let n = not-same (operandColumn (z ∷ zs)) (λ e. some-none (z ∷ zs) (sym (ap (λ (t : List ℕ). readAll (split 44 t)) e ∙ dash-none) ∙ a)) in
+    let n = not-same (operandColumn (z ∷ zs))
+    (λ e. some-none (z ∷ zs) (sym (ap (λ (t : List ℕ). readAll (split 44 t)) e ∙ dash-none) ∙ a)) in
     rw n a
 
 pub target-back : (z : Option ℤ) → readTarget (targetColumn z) ≡ some z
@@ -116,8 +126,14 @@ pub row-back : (r : Row) → r .opcode < length table → readRow (rowText r) �
 unfolding readRow rowText
 row-back r h =
     ap readFields
-    (split-join 9 (decimal (r .offset)) (nameOf (r .opcode) ∷ operandColumn (r .operands) ∷ targetColumn (r .target) ∷ [])
-    (free-decimal 9 (r .offset) (lit< tt), (free-name 9 (r .opcode) (lit< tt) h, (free-operands 9 (r .operands) (lit< tt), (free-target 9 (r .target) (lit< tt), tt)))))
+    (split-join 9 (decimal (r .offset))
+    (nameOf (r .opcode) ∷ operandColumn (r .operands) ∷ targetColumn (r .target) ∷ []) (
+      free-decimal 9 (r .offset) (lit< tt),
+      (
+        free-name 9 (r .opcode) (lit< tt) h,
+        (free-operands 9 (r .operands) (lit< tt), (free-target 9 (r .target) (lit< tt), tt)),
+      ),
+    ))
     ∙ rw (T-true (natural (decimal (r .offset))) (natural-decimal (r .offset)), value-decimal (r .offset), named (r .opcode) h, known-row (r .opcode) .1 h, operands-back (r .operands), target-back (r .target))
 
 -- and no line's end stands in it

@@ -22,7 +22,8 @@ use Rattle.op.specs.Names.{nameOf}
 use Rattle.text.specs.Reading.{same, opcodeOf}
 use Rattle.text.proofs.Opcodes.{read, yes-same}
 use Rattle.text.specs.Row.{Row, dash, wholeTexts, operandColumn, targetColumn, rowText}
-use Rattle.text.specs.Reading.{onlyIf, positive, negative, readWhole, both, readAll, readOperands, present, readTarget, row, readFields, readRow}
+use Rattle.text.specs.Reading.{onlyIf, positive, negative, readWhole, both, readAll, readOperands, present}
+use Rattle.text.specs.Reading.{readTarget, row, readFields, readRow}
 
 nothing {ℓ} : {A : Type ℓ} {a : A} → none ≡ some a → ⊥
 nothing {a} e = clash cc
@@ -56,7 +57,8 @@ all-text : (ts : List (List ℕ)) (zs : List ℤ) → readAll ts ≡ some zs →
 all-text [] zs e = let q : [] ≡ zs = cc in ap wholeTexts q
 all-text (t ∷ ts) zs e = go (readWhole t) refl (readAll ts) refl (λ zs′ q. all-text ts zs′ q) e
   where
-    go : (a : Option ℤ) → readWhole t ≡ a → (b : Option (List ℤ)) → readAll ts ≡ b → ((zs′ : List ℤ) → readAll ts ≡ some zs′ → ts ≡ wholeTexts zs′) → both a b ≡ some zs → t ∷ ts ≡ wholeTexts zs
+    go : (a : Option ℤ) → readWhole t ≡ a → (b : Option (List ℤ)) → readAll ts ≡ b
+        → ((zs′ : List ℤ) → readAll ts ≡ some zs′ → ts ≡ wholeTexts zs′) → both a b ≡ some zs → t ∷ ts ≡ wholeTexts zs
     go none p b q f e = absurd (nothing e)
     go (some z) p none q f e = absurd (nothing e)
     go (some z) p (some zs′) q f e =
@@ -94,7 +96,8 @@ record Said (a b c d : List ℕ) (r : Row) : Type 0 where
   operands-are : c ≡ operandColumn (r .operands)
   target-is : d ≡ targetColumn (r .target)
 
-said : (a b c d : List ℕ) (r : Row) (n : Bool) → natural a ≡ n → (k : Bool) → known (opcodeOf b) ≡ k → (zs : Option (List ℤ)) → readOperands c ≡ zs → (z : Option (Option ℤ)) → readTarget d ≡ z
+said : (a b c d : List ℕ) (r : Row) (n : Bool) → natural a ≡ n → (k : Bool) → known (opcodeOf b) ≡ k
+    → (zs : Option (List ℤ)) → readOperands c ≡ zs → (z : Option (Option ℤ)) → readTarget d ≡ z
     → row n (value a) k (opcodeOf b) zs z ≡ some r → Said a b c d r
 said a b c d r false e₁ k e₂ zs e₃ z e₄ e = absurd (nothing e)
 said a b c d r true e₁ false e₂ zs e₃ z e₄ e = absurd (nothing e)
@@ -105,7 +108,13 @@ said a b c d r true e₁ true e₂ (some zs) e₃ (some z) e₄ e =
     let q : s ≡ r = cc in
     let k = known-row (opcodeOf b) .0 e₂ in
     subst (λ (x : Row). Said a b c d x) q
-    (record { offset-is = sym (decimal-value a (true-T (natural a) e₁)); name-is = sym (read b k); known = k; operands-are = operands-text c zs e₃; target-is = target-text d z e₄ })
+    (record {
+      offset-is = sym (decimal-value a (true-T (natural a) e₁));
+      name-is = sym (read b k);
+      known = k;
+      operands-are = operands-text c zs e₃;
+      target-is = target-text d z e₄;
+    })
 
 fields-text : (fs : List (List ℕ)) (r : Row) → readFields fs ≡ some r
     → (join 9 fs ≡ rowText r) × (r .opcode < length table)

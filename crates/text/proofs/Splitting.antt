@@ -41,7 +41,8 @@ split-join s p [] f = split-last s p (f .0)
 split-join s p (q ∷ ps) f = split-onto s p (join s (q ∷ ps)) (f .0) ∙ ap (λ (l : List (List ℕ)). p ∷ l) (split-join s q ps (f .1))
 
 -- a character in front, joined
-cut-join : (s x : ℕ) (b : Bool) → eqb x s ≡ b → (ps : List (List ℕ)) → (ps ≡ [] → ⊥) → join s (cut b x ps) ≡ x ∷ join s ps
+cut-join : (s x : ℕ) (b : Bool) → eqb x s ≡ b → (ps : List (List ℕ)) → (ps ≡ [] → ⊥)
+    → join s (cut b x ps) ≡ x ∷ join s ps
 cut-join s x true e [] n = absurd (n refl)
 cut-join s x true e (p ∷ ps) n = ap (λ (y : ℕ). y ∷ join s (p ∷ ps)) (sym (eqb-true x s e))
 cut-join s x false e [] n = refl
@@ -64,7 +65,8 @@ split-some s (x ∷ t) e = cut-some (eqb x s) x (split s t) e
 pub join-split : (s : ℕ) (t : List ℕ) → join s (split s t) ≡ t
 unfolding split
 join-split s [] = refl
-join-split s (x ∷ t) = cut-join s x (eqb x s) refl (split s t) (split-some s t) ∙ ap (λ (l : List ℕ). x ∷ l) (join-split s t)
+join-split s (x ∷ t) =
+    cut-join s x (eqb x s) refl (split s t) (split-some s t) ∙ ap (λ (l : List ℕ). x ∷ l) (join-split s t)
 
 pub join-led : (s : ℕ) (p : List ℕ) (ps : List (List ℕ)) → join s (p ∷ ps) ≡ p ++ led s ps
 join-led s p [] = sym (append-nil p)

@@ -61,8 +61,10 @@ pub wider-fits : (w : Width) (z : ℤ) → 2 ^ hbits w ≤ 2 ^ 63 → SFits w z 
 wider-fits w z h f = subst⁻¹ (λ (x : ℤ). SFits w64 x) (toZ-ofZ w z f) (record { sfits = omega (arith, f .sfits) })
 
 pub wider : (w : Width) (z : ℤ) → 2 ^ hbits w ≤ 2 ^ 63 → SFits w z → toZ w64 (ofZ w64 (toZ w (ofZ w z))) ≡ z
-wider w z h f = ap (λ (x : ℤ). toZ w64 (ofZ w64 x)) (toZ-ofZ w z f) ∙ toZ-ofZ w64 z (record { sfits = omega (arith, f .sfits) })
+wider w z h f = ap (λ (x : ℤ). toZ w64 (ofZ w64 x)) (toZ-ofZ w z f)
+    ∙ toZ-ofZ w64 z (record { sfits = omega (arith, f .sfits) })
 
 -- and its text
-pub handed : (w : Width) (z : ℤ) → 2 ^ hbits w ≤ 2 ^ 63 → SFits w z → wholeText z ≡ wholeText (toZ w64 (ofZ w64 (toZ w (ofZ w z))))
+pub handed : (w : Width) (z : ℤ) → 2 ^ hbits w ≤ 2 ^ 63 → SFits w z
+    → wholeText z ≡ wholeText (toZ w64 (ofZ w64 (toZ w (ofZ w z))))
 handed w z h f = ap wholeText (sym (wider w z h f))

@@ -28,7 +28,8 @@ use Rattle.code.specs.declared.Step.the-variants as S
 use Rattle.code.proofs.Decoding.{decoded}
 use Rattle.code.proofs.Instructions.{readFrom, reads-on, reads-end, reads-fault}
 use Rattle.text.specs.Fields.{lineText}
-use Rattle.text.specs.Listing.{most, header, faultLine, firstLine, spotLine, spotLines, stopLine, lineBy, lineOf, linesOf, listingOf, restOf}
+use Rattle.text.specs.Listing.{most, header, faultLine, firstLine, spotLine, spotLines, stopLine, lineBy, lineOf}
+use Rattle.text.specs.Listing.{linesOf, listingOf, restOf}
 use Rattle.text.proofs.Lining.{line-of, fault-of, no-line}
 
 -- where a fault is, there is a byte
@@ -45,7 +46,8 @@ listing-begins code = by (leb (length code) most)
     lines : List ℕ
     lines = linesOf (instructionsIn lastOpcode code)
 
-    by : (b : Bool) → cond b (header ++ lines) (faultLine 0 TooLarge) ≡ cond b header (faultLine 0 TooLarge) ++ cond b lines []
+    by : (b : Bool) → cond b (header ++ lines) (faultLine 0 TooLarge) ≡ cond b header (faultLine 0 TooLarge)
+        ++ cond b lines []
     by true = refl
     by false = sym (append-nil (faultLine 0 TooLarge))
 
@@ -53,7 +55,8 @@ listing-begins code = by (leb (length code) most)
 
 line-before : (spot : Spot) (more : Read) → linesOf (before spot more) ≡ spotLine nameOf spot ++ linesOf more
 unfolding linesOf
-line-before spot more = append-assoc (spotLine nameOf spot) (spotLines (more .spots)) (stopLine (more .stop) (more .fault))
+line-before spot more =
+    append-assoc (spotLine nameOf spot) (spotLines (more .spots)) (stopLine (more .stop) (more .fault))
 
 lines-stop : (at : ℕ) (fault : Option Refusal) → linesOf (stopsAt at fault) ≡ stopLine at fault
 unfolding linesOf
@@ -76,8 +79,10 @@ module _ (code : List ℕ) (at : ℕ) (small : length code ≤ most) where
       let more = readFrom lastOpcode code (at + z) in
       let here = line-is at u (S.Instr k o z) e in
       let later = rest-is code (at + z) small in
-      rest-is code at small ∙ ap linesOf (reads-on lastOpcode code at k o z e) ∙ line-before (spotAt lastOpcode at u k o z) more
-      ∙ sym (ap (λ (l : List ℕ). l ++ restOf code (at + z)) here ∙ ap (λ (l : List ℕ). lineBy nameOf at u (S.Instr k o z) ++ l) later)
+      rest-is code at small ∙ ap linesOf (reads-on lastOpcode code at k o z e)
+      ∙ line-before (spotAt lastOpcode at u k o z) more
+      ∙ sym (ap (λ (l : List ℕ). l ++ restOf code (at + z)) here
+      ∙ ap (λ (l : List ℕ). lineBy nameOf at u (S.Instr k o z) ++ l) later)
 
   -- a fault's line is the last
   pub rest-fault : (r : Refusal) → decode lastOpcode at (drop at code) ≡ S.Refused r
@@ -105,7 +110,8 @@ own-names at u = by (decode lastOpcode at u) refl
     by : (s : Step) → decode lastOpcode at u ≡ s → lineOf (nameBy nameText nameStarts) at u ≡ lineOf nameOf at u
     by (S.Instr k o z) e =
         let d = decoded lastOpcode at u k o z e in
-        line-of (nameBy nameText nameStarts) at u k o z e ∙ ap (λ (n : List ℕ). lineText at n o u) (name-by k (known-below k (operandShape o) (d .shape)))
+        line-of (nameBy nameText nameStarts) at u k o z e
+        ∙ ap (λ (n : List ℕ). lineText at n o u) (name-by k (known-below k (operandShape o) (d .shape)))
         ∙ sym (line-of nameOf at u k o z e)
     by S.End e = no-line (nameBy nameText nameStarts) at u e ∙ sym (no-line nameOf at u e)
     by (S.Refused r) e = fault-of (nameBy nameText nameStarts) at u r e ∙ sym (fault-of nameOf at u r e)

@@ -27,8 +27,8 @@ use Rattle.text.specs.declared.Listed.the-variants as L
 abbrev pub depthText : ℕ → List ℕ
 depthText d = cond (eqb d noDepth) dash (decimal d)
 
--- the column in front of the line at an offset: its cell, and a tab. Past the cells there is no column, so that without cells there is none
--- (R66)
+-- the column in front of the line at an offset: its cell, and a tab. Past the cells there is no column, so that
+-- without cells there is none (R66)
 unfoldable pub columnOf : List ℕ → ℕ → List ℕ
 columnOf depths at = cond (ltb at (length depths)) (depthText (getD depths at 0) ++ (9 ∷ [])) []
 
@@ -87,8 +87,12 @@ unfoldable pub checkedListingOf : List ℕ → List ℕ → List ℕ
 checkedListingOf code depths = textOf (checkedLines code depths 0)
 
 -- the answer of a call that makes a part of it, and every lent cell: 10, then 21, then 18 (R67)
-pub record ListsChecked (code depths : List ℕ) (cursor : ℕ) (old : List ℕ) (answer : Listed) (out : List ℕ) : Type 0 where
-  pub answers : answer ≡
-      cond (leb (length code) codeLimit) (cond (ltb (length code) (length depths)) (listedOf (checkedLines code depths cursor) cursor old) (L.Refused ShortDepths))
-      (L.Refused TooLarge)
-  pub cells : out ≡ cond (leb (length code) codeLimit) (cond (ltb (length code) (length depths)) (listedIn (checkedLines code depths cursor) cursor old) old) old
+pub record ListsChecked (code depths : List ℕ) (cursor : ℕ) (old : List ℕ) (answer : Listed) (out : List ℕ) : Type 0
+  where
+    pub answers : answer ≡
+        cond (leb (length code) codeLimit)
+        (cond (ltb (length code) (length depths)) (listedOf (checkedLines code depths cursor) cursor old)
+        (L.Refused ShortDepths))
+        (L.Refused TooLarge)
+    pub cells : out ≡ cond (leb (length code) codeLimit)
+        (cond (ltb (length code) (length depths)) (listedIn (checkedLines code depths cursor) cursor old) old) old

@@ -58,8 +58,10 @@ pub record Stepped (at : ℕ) (front old : List ℕ) (to : ℕ) : Type 0 where
   pub fits : to ≤ length old
 
 -- the answer and every cell of the call that puts a step's line
-pub record Steps (front code : List ℕ) (at : ℕ) (step : Step) (old : List ℕ) (to : ℕ) (p : Progress) (out : List ℕ) : Type 0 where
-  pub answers : p ≡ wentBy (placedOf old to (stepText front at (drop at code) step)) at to (stepNext front at (drop at code) step) (stepMore step)
+pub record Steps (front code : List ℕ) (at : ℕ) (step : Step) (old : List ℕ) (to : ℕ) (p : Progress)
+    (out : List ℕ) : Type 0 where
+  pub answers : p ≡ wentBy (placedOf old to (stepText front at (drop at code) step)) at to
+      (stepNext front at (drop at code) step) (stepMore step)
   pub cells : out ≡ written old to (stepText front at (drop at code) step)
 
 -- a code that is not too long, a cell for each of its offsets and its end at most, and a text that has the place
@@ -97,5 +99,6 @@ saidBy p = saidOf (p .to) (noLine (suc (p .at)) (p .full))
 
 -- the answer and every cell of a part from an offset on, behind a text that ends at a place
 pub record Goes (depths code : List ℕ) (at : ℕ) (old : List ℕ) (to : ℕ) (answer : Listed) (out : List ℕ) : Type 0 where
-  pub answers : answer ≡ saidOf (to + length (fit (length old - to) (suc at) (linesFrom depths code at) .text)) (fit (length old - to) (suc at) (linesFrom depths code at))
+  pub answers : answer ≡ saidOf (to + length (fit (length old - to) (suc at) (linesFrom depths code at) .text))
+      (fit (length old - to) (suc at) (linesFrom depths code at))
   pub cells : out ≡ sets old to (fit (length old - to) (suc at) (linesFrom depths code at) .text)

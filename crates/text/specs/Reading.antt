@@ -79,7 +79,8 @@ readFields [] = none
 readFields (a ∷ []) = none
 readFields (a ∷ b ∷ []) = none
 readFields (a ∷ b ∷ c ∷ []) = none
-readFields (a ∷ b ∷ c ∷ d ∷ []) = row (natural a) (value a) (known (opcodeOf b)) (opcodeOf b) (readOperands c) (readTarget d)
+readFields (a ∷ b ∷ c ∷ d ∷ []) =
+    row (natural a) (value a) (known (opcodeOf b)) (opcodeOf b) (readOperands c) (readTarget d)
 readFields (a ∷ b ∷ c ∷ d ∷ e ∷ ts) = none
 
 -- the row that a text says, where it is one

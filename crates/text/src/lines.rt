@@ -57,7 +57,8 @@ fn cells() -> [u8; 1600]
 
 // Three texts, one behind the other.
 fn joined(front: &[u8], name: &[u8], back: &[u8], out: &mut [u8], to: usize) -> Placed
-    ensures { λ r. ⌜ Places (now (out .entry)) to (now (front .entry) ++ (now (name .entry) ++ now (back .entry))) r (now (out .exit)) ⌝ }
+    ensures { λ r. ⌜ Places (now (out .entry)) to (now (front .entry) ++ (now (name .entry) ++ now (back .entry))) r
+        (now (out .exit)) ⌝ }
 {
     let room = put::room(out.len(), to);
     if room < front.len() {
@@ -85,7 +86,9 @@ fn tight(
     to: usize,
 ) -> Placed
     requires { ⌜ Lean at operand (drop at (now code)) × (length (now front) ≤ 11) ⌝ }
-    ensures { λ r. ⌜ Places (now (out .entry)) to (now (front .entry) ++ lineText at (now (name .entry)) operand (drop at (now (code .entry)))) r (now (out .exit)) ⌝ }
+    ensures { λ r. ⌜ Places (now (out .entry)) to
+        (now (front .entry) ++ lineText at (now (name .entry)) operand (drop at (now (code .entry)))) r
+        (now (out .exit)) ⌝ }
 {
     let mut head = [0u8; 24];
     let f = write::copy(front, &mut head, 0);
@@ -106,7 +109,9 @@ pub fn line(
     to: usize,
 ) -> Placed
     requires { ⌜ Lean at operand (drop at (now code)) × (length (now front) ≤ 11) ⌝ }
-    ensures { λ r. ⌜ Places (now (out .entry)) to (now (front .entry) ++ lineText at (now (name .entry)) operand (drop at (now (code .entry)))) r (now (out .exit)) ⌝ }
+    ensures { λ r. ⌜ Places (now (out .entry)) to
+        (now (front .entry) ++ lineText at (now (name .entry)) operand (drop at (now (code .entry)))) r
+        (now (out .exit)) ⌝ }
 {
     let room = put::room(out.len(), to);
     if room < name.len() {

@@ -19,7 +19,8 @@ use op::Operand;
 use op::names;
 use reader::InstructionReader;
 
-// How far a listing is: the offset of the next line, the end of the text so far, whether there may be more lines, and whether one was left for want of room.
+// How far a listing is: the offset of the next line, the end of the text so far, whether there may be more lines, and
+// whether one was left for want of room.
 pub struct Progress {
     pub at: usize,
     pub to: usize,
@@ -149,7 +150,8 @@ pub fn fill(
     to: usize,
 ) -> Progress
     requires { ⌜ (now texts ≡ nameText) × (now starts ≡ nameStarts) × Lent (now code) (now depths) (now out) to ⌝ }
-    ensures { λ r. ⌜ Fills (now (depths .entry)) (now (code .entry)) at (now (out .entry)) to r (now (out .exit)) × (r .more ≡ false) ⌝ }
+    ensures { λ r. ⌜ Fills (now (depths .entry)) (now (code .entry)) at (now (out .entry)) to r (now (out .exit))
+        × (r .more ≡ false) ⌝ }
 {
     let mut reader = InstructionReader::new(code, at);
     let mut p = Progress {

@@ -77,7 +77,8 @@ pub fn list(code: &[u8], from: usize, out: &mut [u8]) -> Listed
 
 // The listing of checked code with its depths, `checkedListingOf`, from a cursor on: 10 over 1,048,576 bytes, 21 for fewer depths than bytes and one.
 pub fn list_checked(code: &[u8], depths: &[u32], from: usize, out: &mut [u8]) -> Listed
-    ensures { λ r. ⌜ ListsChecked (now (code .entry)) (now (depths .entry)) from (now (out .entry)) r (now (out .exit)) ⌝ }
+    ensures { λ r. ⌜ ListsChecked (now (code .entry)) (now (depths .entry)) from (now (out .entry)) r
+        (now (out .exit)) ⌝ }
 {
     if CODE_LIMIT < code.len() {
         return Listed::Refused(Refusal::TooLarge);

@@ -91,7 +91,8 @@ fn attr_call(
     to: usize,
 ) -> usize
     requires { ⌜ length (decimal attribute ++ (44 ∷ callText positional count (now bytes))) ≤ length (now out) - to ⌝ }
-    ensures { λ r. ⌜ Put (now (out .entry)) to (decimal attribute ++ (44 ∷ callText positional count (now (bytes .entry)))) r (now (out .exit)) ⌝ }
+    ensures { λ r. ⌜ Put (now (out .entry)) to
+        (decimal attribute ++ (44 ∷ callText positional count (now (bytes .entry)))) r (now (out .exit)) ⌝ }
 {
     let o = write::decimal(attribute, out, to);
     let e = write::byte(b',', out, o);
@@ -177,7 +178,8 @@ fn tail(at: usize, operand: Operand, out: &mut [u8], to: usize) -> usize
 // All behind the name.
 pub fn back(code: &[u8], at: usize, operand: Operand, out: &mut [u8], to: usize) -> usize
     requires { ⌜ (at ≤ codeLimit) × (length (backText at operand (drop at (now code))) ≤ length (now out) - to) ⌝ }
-    ensures { λ r. ⌜ Put (now (out .entry)) to (backText at operand (drop at (now (code .entry)))) r (now (out .exit)) ⌝ }
+    ensures { λ r. ⌜ Put (now (out .entry)) to (backText at operand (drop at (now (code .entry)))) r
+        (now (out .exit)) ⌝ }
 {
     let o = write::byte(b'\t', out, to);
     let e = operands(code, at, operand, out, o);
@@ -193,8 +195,10 @@ pub fn line(
     out: &mut [u8],
     to: usize,
 ) -> usize
-    requires { ⌜ (at ≤ codeLimit) × (length (lineText at (now name) operand (drop at (now code))) ≤ length (now out) - to) ⌝ }
-    ensures { λ r. ⌜ Put (now (out .entry)) to (lineText at (now (name .entry)) operand (drop at (now (code .entry)))) r (now (out .exit)) ⌝ }
+    requires { ⌜ (at ≤ codeLimit) ×
+        (length (lineText at (now name) operand (drop at (now code))) ≤ length (now out) - to) ⌝ }
+    ensures { λ r. ⌜ Put (now (out .entry)) to (lineText at (now (name .entry)) operand (drop at (now (code .entry))))
+        r (now (out .exit)) ⌝ }
 {
     let o = ended(at as u64, b'\t', out, to);
     let e = write::copy(name, out, o);

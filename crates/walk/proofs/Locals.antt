@@ -1,4 +1,5 @@
--- The locals of a walk by hand, in front of the rest of its context: each has its place and, beside it, that the place is freed at exit.
+-- The locals of a walk by hand, in front of the rest of its context: each has its place and, beside it, that the
+-- place is freed at exit.
 -- Assumes nothing.
 use mathlib.Core.List.{List, _∷_}
 use Prim.Native.Nat.{ℕ}

@@ -15,9 +15,11 @@ use types.Run.{Opd, first, branches, skips, jumps}
 
 module _ {M : Type 1} {𝓤 : URA M} {H : Heap 𝓤} {A : Atoms 𝓤} {K : Type 0} {W : Given 𝓤 H A} {Γ : List (Item 𝓤)} {E : Env 𝓤 H} {C : Calls 𝓤 H} {Λ : Loops 𝓤 H} {q : Post 𝓤 H} where
   pub tests : K → {c : Operand} {n : ℕ} {b : Body} {y : Bool} → Opd K W Γ E c (vbool y)
-      → (T y → Seq K W Γ (runs C Λ E b q)) → (T (not y) → Seq K W Γ (prop (post 𝓤 H q (exits n)))) → Seq K W Γ (runs C Λ E (seq (cond c skip (exit n)) b) q)
+      → (T y → Seq K W Γ (runs C Λ E b q)) → (T (not y) → Seq K W Γ (prop (post 𝓤 H q (exits n))))
+      → Seq K W Γ (runs C Λ E (seq (cond c skip (exit n)) b) q)
   tests t o go out = first t $ branches t o (λ h. skips t $ record { prf = go h .prf }) (λ h. jumps t $ out h)
 
   pub whether : K → {c : Operand} {a b : Body} {y : Bool} → Opd K W Γ E c (vbool y)
-      → (T y → Seq K W Γ (runs C Λ E a (anyQ (afterSeq 𝓤 H (Wp 𝓤 H C Λ E b (post 𝓤 H q)) (post 𝓤 H q))))) → (T (not y) → Seq K W Γ (runs C Λ E b q)) → Seq K W Γ (runs C Λ E (seq (cond c a skip) b) q)
+      → (T y → Seq K W Γ (runs C Λ E a (anyQ (afterSeq 𝓤 H (Wp 𝓤 H C Λ E b (post 𝓤 H q)) (post 𝓤 H q)))))
+      → (T (not y) → Seq K W Γ (runs C Λ E b q)) → Seq K W Γ (runs C Λ E (seq (cond c a skip) b) q)
   whether t o go on = first t $ branches t o go (λ h. skips t $ record { prf = on h .prf })

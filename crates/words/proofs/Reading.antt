@@ -99,6 +99,7 @@ pub signed-read : (t : List ℕ) → (length t ≡ 0 → ⊥) → getD t 0 0 ≡
 signed-read [] n e = absurd (n refl)
 signed-read (c ∷ t) n e = simp (eq-eqb c 45 e) (negative-read t)
 
-pub unsigned-read : (t : List ℕ) → (length t ≡ 0 → ⊥) → (getD t 0 0 ≡ 45 → ⊥) → plusOf (numberOf t) ≡ wholeOf (readWhole t)
+pub unsigned-read : (t : List ℕ) → (length t ≡ 0 → ⊥) → (getD t 0 0 ≡ 45 → ⊥)
+    → plusOf (numberOf t) ≡ wholeOf (readWhole t)
 unsigned-read [] n e = absurd (n refl)
 unsigned-read (c ∷ t) n e = simp (ne-eqb c 45 e) (positive-read (c ∷ t))

@@ -1,4 +1,5 @@
-// Words as numbers. What a word says is `text`'s `natural`, `value` and `readWhole`, here in 64 bits; nothing requires anything.
+// Words as numbers. What a word says is `text`'s `natural`, `value` and `readWhole`, here in 64 bits; nothing
+// requires anything.
 ghost use Prim.Native.Nat.{_+_, _-_, _*_};
 ghost use Rattle.base.specs.Tests.{all};
 ghost use Rattle.text.specs.Number.{value};

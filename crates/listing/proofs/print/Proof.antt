@@ -13,7 +13,8 @@ use Rattle.listing.proofs.print.Statement.{statement}
 use Rattle.listing.proofs.print.Tie as tie
 
 abbrev Inv-loop : tie.InvT-loop
-Inv-loop bytes size out₀ code p₀ out p = (length out ≡ length out₀) × (p .more ≡ false → p .fine ≡ true → plainLines code (p .next) ≡ [])
+Inv-loop bytes size out₀ code p₀ out p =
+    (length out ≡ length out₀) × (p .more ≡ false → p .fine ≡ true → plainLines code (p .next) ≡ [])
 
 abbrev μ-loop : tie.MeasureT-loop
 μ-loop bytes size out₀ code p₀ out p = turns code p

@@ -1,4 +1,5 @@
--- `reader::after` meets its contract: its tests are those of the definition, and at the code's end nothing is left of it.
+-- `reader::after` meets its contract: its tests are those of the definition, and at the code's end nothing is left of
+-- it.
 -- Assumes nothing.
 use mathlib.Core.Path.{_≡_, refl}
 use mathlib.Core.Bool.{Bool, true, false, cond}

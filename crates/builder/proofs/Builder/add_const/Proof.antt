@@ -1,4 +1,5 @@
--- `builder::Builder::add_const` meets its contract: its tests are the definition's, and the lent part comes back with the value.
+-- `builder::Builder::add_const` meets its contract: its tests are the definition's, and the lent part comes back with
+-- the value.
 -- Assumes nothing.
 use Prim.Native.Nat.{_+_, _≤_}
 use Rattle.code.proofs.Putting.{put-lent}

@@ -1,4 +1,5 @@
--- `builder::Builder::add_exception_entry` meets its contract: its tests are the definition's, and the lent part comes back with the row.
+-- `builder::Builder::add_exception_entry` meets its contract: its tests are the definition's, and the lent part comes
+-- back with the row.
 -- Assumes nothing.
 use Prim.Native.Nat.{_*_, _+_, _≤_, ℕ}
 use Rattle.base.proofs.Bools.{and-true}
@@ -17,7 +18,8 @@ use Rattle.builder.proofs.Builder.add_exception_entry.Statement.{statem
 use Rattle.builder.proofs.Builder.add_exception_entry.Tie as tie
 
 -- the offsets fit their cells
-small : (start end handler : ℕ) → offsetsFit start end handler ≡ true → (start ≤ offsetMax) × (end ≤ offsetMax) × (handler ≤ offsetMax)
+small : (start end handler : ℕ) → offsetsFit start end handler ≡ true
+    → (start ≤ offsetMax) × (end ≤ offsetMax) × (handler ≤ offsetMax)
 unfolding offsetsFit
 small start end handler e =
     let p = and-true (leb start offsetMax && leb end offsetMax) (leb handler offsetMax) e in

@@ -27,7 +27,8 @@ sound c = sym (c .before .counts-sound .ensures) ∙ not-false _ (c .if1 .left)
 planned : (c : tie.After-decide-mark) →
     let row = c .before .before .before .before in
     let a = Given (row .before .before) .args in
-    markPlanOf (markIn (a .self .core .marks) (a .marks .now) (row .label .given .0 .0)) (a .self .core) ≡ c .decide-mark .result
+    markPlanOf (markIn (a .self .core .marks) (a .marks .now) (row .label .given .0 .0)) (a .self .core)
+    ≡ c .decide-mark .result
 planned c =
     let else1 = c .before .before .before .before .before .before in
     let start = else1 .before .before .before .before .before in

@@ -1,4 +1,5 @@
--- `builder::Builder::register_local_name` meets its contract: its tests are the definition's; a held cell is set, or the lent part comes back with the extension.
+-- `builder::Builder::register_local_name` meets its contract: its tests are the definition's; a held cell is set, or
+-- the lent part comes back with the extension.
 -- Assumes nothing.
 use Prim.Native.Nat.{_-_}
 use Rattle.builder.proofs.Naming.{extension-fits}

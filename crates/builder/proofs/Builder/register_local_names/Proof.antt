@@ -1,4 +1,5 @@
--- `builder::Builder::register_local_names` meets its contract: its tests are the definition's, and the names stand at the front.
+-- `builder::Builder::register_local_names` meets its contract: its tests are the definition's, and the names stand at
+-- the front.
 -- Assumes nothing.
 use Rattle.code.proofs.Putting.{put-front}
 use Rattle.builder.specs.State.{kept}

@@ -1,4 +1,5 @@
--- `builder::locations::write_location` meets its contract: a row is free where a location is set, and the lent part comes back with it.
+-- `builder::locations::write_location` meets its contract: a row is free where a location is set, and the lent part
+-- comes back with it.
 -- Assumes nothing.
 use Prim.Native.Nat.{_*_, _+_, _/_, _<_, _≤_}
 use Rattle.builder.proofs.Emitted.{set-arm}
@@ -13,7 +14,8 @@ use Rattle.builder.proofs.locations.write_location.Statement.{statement
 use Rattle.builder.proofs.locations.write_location.Tie as tie
 
 -- a row is free where a location is set
-free : (c : tie.After-known-told) → c .before .before .before .before .args .rows < length (c .before .before .before .before .args .locations .now) / locationCells
+free : (c : tie.After-known-told) → c .before .before .before .before .args .rows
+    < length (c .before .before .before .before .args .locations .now) / locationCells
 free c =
     let start = c .before .before .before .before in
     ltb-true _ _ (rw (c .before .location .given .1) at (start .pre .1))

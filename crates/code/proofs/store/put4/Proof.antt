@@ -27,4 +27,5 @@ returns : tie.Need-returns
 returns c = let a = c .args in sets-front (a .a ∷ a .b ∷ a .c ∷ a .d ∷ []) (a .out .now) (c .pre)
 
 pub put4-spec : {M : Type 1} → statement M
-put4-spec = tie.close (tie.spec slice-write-out slice-write-out-2 slice-write-out-3 slice-write-out-4 same-length returns)
+put4-spec = tie.close (tie.spec slice-write-out slice-write-out-2 slice-write-out-3 slice-write-out-4 same-length
+    returns)

@@ -30,4 +30,5 @@ returns : tie.Need-returns
 returns c = let a = c .args in sets-front (a .a ∷ a .b ∷ a .c ∷ a .d ∷ a .e ∷ []) (a .out .now) (c .pre)
 
 pub put5-spec : {M : Type 1} → statement M
-put5-spec = tie.close (tie.spec slice-write-out slice-write-out-2 slice-write-out-3 slice-write-out-4 slice-write-out-5 same-length returns)
+put5-spec = tie.close (tie.spec slice-write-out slice-write-out-2 slice-write-out-3 slice-write-out-4 slice-write-out-5
+    same-length returns)

@@ -33,4 +33,5 @@ returns : tie.Need-returns
 returns c = let a = c .args in sets-front (a .a ∷ a .b ∷ a .c ∷ a .d ∷ a .e ∷ a .f ∷ []) (a .out .now) (c .pre)
 
 pub put6-spec : {M : Type 1} → statement M
-put6-spec = tie.close (tie.spec slice-write-out slice-write-out-2 slice-write-out-3 slice-write-out-4 slice-write-out-5 slice-write-out-6 same-length returns)
+put6-spec = tie.close (tie.spec slice-write-out slice-write-out-2 slice-write-out-3 slice-write-out-4 slice-write-out-5
+    slice-write-out-6 same-length returns)

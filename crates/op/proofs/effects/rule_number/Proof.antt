@@ -1,4 +1,5 @@
--- `op::effects::rule_number` meets its contract: in each arm the table computes to the arm's number, and past the arms to the default row's.
+-- `op::effects::rule_number` meets its contract: in each arm the table computes to the arm's number, and past the
+-- arms to the default row's.
 -- Assumes nothing.
 use Rattle.op.specs.Opcodes.{rowOf, table}
 use Rattle.op.specs.Inner.{ruleNo}

@@ -1,4 +1,5 @@
--- `op::flags::decode_assert_flags` meets its contract: at each arm's byte the definition computes to the arm's answer, and no other byte is valid.
+-- `op::flags::decode_assert_flags` meets its contract: at each arm's byte the definition computes to the arm's
+-- answer, and no other byte is valid.
 -- Assumes nothing.
 use mathlib.Core.List.{[], _∷_, _++_}
 use Prim.Native.Nat.{ℕ}

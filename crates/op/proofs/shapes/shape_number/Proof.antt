@@ -1,4 +1,5 @@
--- `op::shapes::shape_number` meets its contract: in each arm the table computes to the arm's number, and past the arms no opcode is known.
+-- `op::shapes::shape_number` meets its contract: in each arm the table computes to the arm's number, and past the
+-- arms no opcode is known.
 -- Assumes nothing.
 use Rattle.op.specs.Opcodes.{known, rowOf, table}
 use Rattle.op.specs.Inner.{shapeNo}

@@ -1,5 +1,6 @@
--- `reader::InstructionReader::behind` meets its contract: a walk of its MIR by hand. The struct is taken apart, `after` is called on the slice and the number, and the struct is made
--- again with its answer. The struct is Copy: what it owns is kept whole for the exit, and is had again for the call and for the result.
+-- `reader::InstructionReader::behind` meets its contract: a walk of its MIR by hand. The struct is taken apart,
+-- `after` is called on the slice and the number, and the struct is made again with its answer. The struct is Copy:
+-- what it owns is kept whole for the exit, and is had again for the call and for the result.
 -- Assumes nothing.
 use mathlib.Core.Path.{_≡_, refl}
 use Prim.Native.Nat.{ℕ}
@@ -71,34 +72,54 @@ module _ {M : Type 1} (𝓤 : URA M) (H : Heap 𝓤) (A : Atoms 𝓤) (W : Given
   d′ n = record { code = d .code; at = n }
 
   abbrev Post : Val → SProp 𝓤
-  Post = walkOf 𝓤 H A behind.ended stayed (behind.clauses 𝓤 H A mem run) .post (((κ, tt), (q, tt), tt, (d, (t, tt)), at), tt)
+  Post = walkOf 𝓤 H A behind.ended stayed (behind.clauses 𝓤 H A mem run) .post
+      (((κ, tt), (q, tt), tt, (d, (t, tt)), at), tt)
 
   -- what the callee is passed
   abbrev to : Con 𝓤 H A after.ended (after.clauses 𝓤 H A mem run) .Ghost
-  to = (((κ, tt), (q, tt), tt, (d .code, (d .at, (t, tt))), (sv (d .code) ∷ [], (vint w64 (d .at) ∷ [], (tv ∷ [], tt)))), tt)
+  to = (
+    (
+      (κ, tt),
+      (q, tt),
+      tt,
+      (d .code, (d .at, (t, tt))),
+      (sv (d .code) ∷ [], (vint w64 (d .at) ∷ [], (tv ∷ [], tt))),
+    ),
+    tt,
+  )
 
   abbrev Tok : Item 𝓤
   Tok = toks 𝓤 H A after.ended (after.clauses 𝓤 H A mem run) to
 
-  exits : (n : ℕ) → n ≡ afterStep (length (now (d .code))) (d .at) t → Sq W (‵ (usize .own n (vint w64 n ∷ [])) ∷ Tok ∷ ‵ (Rd κ d) ∷ []) (prop (Post (val κ (d′ n))))
+  exits : (n : ℕ) → n ≡ afterStep (length (now (d .code))) (d .at) t
+      → Sq W (‵ (usize .own n (vint w64 n ∷ [])) ∷ Tok ∷ ‵ (Rd κ d) ∷ []) (prop (Post (val κ (d′ n))))
   exits n e =
-      suffices ! _ (ends-at 𝓤 H A behind.ended stayed (behind.clauses 𝓤 H A mem run) W (((κ, tt), (q, tt), tt, (d, (t, tt)), at), tt) (val κ (d′ n)) (d′ n) (tt, (tt, tt)) (tt, (tt, tt))) $ says ! (refl, e) $
+      suffices ! _ (ends-at 𝓤 H A behind.ended stayed (behind.clauses 𝓤 H A mem run) W
+      (((κ, tt), (q, tt), tt, (d, (t, tt)), at), tt) (val κ (d′ n)) (d′ n) (tt, (tt, tt)) (tt, (tt, tt))) $
+      says ! (refl, e) $
       move ! (1 ∷ []) $ frame ! $ move ! (1 ∷ []) $ use1 W (‵ (Rd κ d) ⊛ ‵ (Rd κ d)) (again-had κ 𝓤 H A W d) $ split ! $ nothing ! $ owned ! S.the-row (Is S.the-row) (EL.makes S.the-type S′.the-plain 𝓤 H A) t _ is-t $ fjoin ! $ move ! (1 ∷ 0 ∷ []) $ fjoin ! $ frame ! $
       -- [what the struct owns; the number's facts], which take the place of at's
       by ! (own-put 𝓤 H A W (D κ) (L κ) 1 (d .code, (d .at, tt)) n mach)
 
-  module _ (𝓣 : Tables 𝓤 H) (known : Triple 𝓤 (𝓣 .C #reader·after) (Con 𝓤 H A after.ended (after.clauses 𝓤 H A mem run))) where
-    walk : Holds (hasTy (T′.mir (named 0)) mach) × WT mach → ent 𝓤 (onEntry 𝓤 H A behind.signature (κ, tt) (q, tt) (d, (t, tt)) at) (WpFn 𝓤 H (𝓣 .C) (𝓣 .Λ) code.function (mach ∷ tv ∷ []) Post)
+  module _ (𝓣 : Tables 𝓤 H) (known : Triple 𝓤 (𝓣 .C #reader·after)
+      (Con 𝓤 H A after.ended (after.clauses 𝓤 H A mem run))) where
+    walk : Holds (hasTy (T′.mir (named 0)) mach) × WT mach
+        → ent 𝓤 (onEntry 𝓤 H A behind.signature (κ, tt) (q, tt) (d, (t, tt)) at)
+        (WpFn 𝓤 H (𝓣 .C) (𝓣 .Λ) code.function (mach ∷ tv ∷ []) Post)
     walk wt =
-        qed W (Tok ∷ ‵ (owns (B κ ∷ S.the-row ∷ []) (d, (t, tt)) at) ∷ []) ∵ enter ! (𝓣 .C) (𝓣 .Λ) code.function (mach ∷ tv ∷ []) _ $
+        qed W (Tok ∷ ‵ (owns (B κ ∷ S.the-row ∷ []) (d, (t, tt)) at) ∷ []) ∵ enter ! (𝓣 .C) (𝓣 .Λ) code.function
+        (mach ∷ tv ∷ []) _ $
         alloc1 ! (λ l₀. alloc1 ! (λ l₁. alloc1 ! (λ l₂. alloc1 ! (λ l₃. alloc1 ! (λ l₄. alloc1 ! (λ l₅. alloc1 ! (λ l₆. alloc0 ! $ params1 ! $ pass1 ! (init ! 10 refl wt) $
         pass1 ! (init ! 8 refl (EL.lawful S.the-type S′.the-laws 𝓤 H A W tt .typed t _ is-t .0)) $ pass0 ! $
         assigns ! (of-opd ! (load ! (from ! (fld ! refl (stop !))) (look-in ! 10 (sub ! 0 refl (whole !))))) (from ! (stop !)) (init ! 4 refl (tt, wt .1 .0)) $
         assigns ! (of-opd ! (load ! (from ! (fld ! refl (stop !))) (look-in ! 10 (sub ! 1 refl (whole !))))) (from ! (stop !)) (init ! 2 refl (tt, wt .1 .1 .0)) $
-        -- [what the slice owns; what the reader owns; what the step owns; _6; …; the tokens]: the callee's arguments are put together
+        -- [what the slice owns; what the reader owns; what the step owns; _6; …; the tokens]: the callee's arguments
+        -- are put together
         move ! (15 ∷ []) $ fsplit ! $ use1 W (‵ (Own κ (d .code)) ⊛ ‵ (Rd κ d)) (slice-of κ 𝓤 H A W d) $ split ! $ move ! (2 ∷ []) $
         owned ! usize (Is usize) (uint-makes 𝓤 H A W w64) (d .at) _ (refl, wt .1 .1 .0 .fits) $ fjoin ! $ move ! (1 ∷ 0 ∷ []) $ fjoin ! $ move ! (16 ∷ 0 ∷ []) $
-        calls-told ! (fmOf 𝓤 H (W .laws) 𝓣) after.ended (after.clauses 𝓤 H A mem run) known to (λ n. n ≡ afterStep (length (now (d .code))) (d .at) t) (λ r ws. id⊢ 𝓤 _) (id⊢ 𝓤 _) (vint w64) (uint-tells w64)
+        calls-told ! (fmOf 𝓤 H (W .laws) 𝓣) after.ended (after.clauses 𝓤 H A mem run) known to
+        (λ n. n ≡ afterStep (length (now (d .code))) (d .at) t) (λ r ws. id⊢ 𝓤 _) (id⊢ 𝓤 _) (vint w64)
+        (uint-tells w64)
         (and-then ! (load ! (from ! (stop !)) (look ! 6 refl)) (and-then ! (load ! (from ! (stop !)) (look ! 4 refl)) (and-then ! (load ! (from ! (stop !)) (look ! 10 refl)) (no-more !)))) (λ n e is.
         -- [the result; the tokens; what the reader owns; room for _6; …; _5; …; _4; …; room for _3; …; _2; …; _1; …; room for _0; …]
         land ! (from ! (stop !)) (init ! 9 refl (uint-lawful 𝓤 H A W w64 .typed n _ is .0)) $
@@ -110,7 +131,9 @@ module _ {M : Type 1} (𝓤 : URA M) (H : Heap 𝓤) (A : Atoms 𝓤) (W : Given
 
 module _ {M : Type 1} (𝓤 : URA M) (H : Heap 𝓤) (A : Atoms 𝓤) (W : Given 𝓤 H A) (mem : Memory → SProp 𝓤) (run : Routine → Fun 𝓤) (𝓣 : Tables 𝓤 H) (known : Triple 𝓤 (𝓣 .C #reader·after) (Con 𝓤 H A after.ended (after.clauses 𝓤 H A mem run))) where
   behind-walks : Walks 𝓤 H A behind.ended stayed (WpFn 𝓤 H (𝓣 .C) (𝓣 .Λ) code.function) (behind.clauses 𝓤 H A mem run)
-  behind-walks = walked 𝓤 H A behind.ended stayed (behind.clauses 𝓤 H A mem run) (WpFn 𝓤 H (𝓣 .C) (𝓣 .Λ) code.function) (λ κs. (LL.vals (D (κs .0)) (L (κs .0)), (EL.vals S.the-type S′.the-laws, tt))) (λ κs. (LL.tells (D (κs .0)) (L (κs .0)), (EL.tells S.the-type S′.the-laws, tt)))
+  behind-walks = walked 𝓤 H A behind.ended stayed (behind.clauses 𝓤 H A mem run) (WpFn 𝓤 H (𝓣 .C) (𝓣 .Λ) code.function)
+      (λ κs. (LL.vals (D (κs .0)) (L (κs .0)), (EL.vals S.the-type S′.the-laws, tt)))
+      (λ κs. (LL.tells (D (κs .0)) (L (κs .0)), (EL.tells S.the-type S′.the-laws, tt)))
       (λ κs qs bounds a g are. via 𝓤 _ (fst∗ 𝓤 _ (emp 𝓤)) (walk 𝓤 H A W mem run (κs .0) (qs .0) (a .0) (a .1 .0) (are .1 .0) 𝓣 known (LL.lawful (D (κs .0)) (L (κs .0)) 𝓤 H A W .typed (a .0) _ (are .0) .0)))
 
   behind-meets : Meets 𝓤 H A behind.signature (WpFn 𝓤 H (𝓣 .C) (𝓣 .Λ) code.function) (behind.spec 𝓤 H A mem run)
@@ -122,4 +145,5 @@ behind-spec 𝓤 H 𝓜 𝓖 𝓡 =
     entered 𝓤 H (tripleOf 𝓤 H (𝓖 .A) behind.signature (behind.spec 𝓤 H (𝓖 .A) (𝓜 .mem) (𝓡 .run)))
     (tables 𝓤 H 𝓜 𝓡 code.env .C) (tables 𝓤 H 𝓜 𝓡 code.env .Λ) #reader·behind code.function (code.unfolded 𝓤 H 𝓜 𝓡)
     (behind-meets 𝓤 H (𝓖 .A) (givenOf 𝓤 H 𝓜 𝓖) (𝓜 .mem) (𝓡 .run) (tablesOf 𝓤 H 𝓜 (tables 𝓤 H 𝓜 𝓡 code.env))
-    (cited 𝓤 H (Con 𝓤 H (𝓖 .A) after.ended (after.clauses 𝓤 H (𝓖 .A) (𝓜 .mem) (𝓡 .run))) 𝓜 𝓡 code.env #reader·after after-def.routine code.calls-reader·after (after-thm.met 𝓤 H 𝓜 𝓖 𝓡)))
+    (cited 𝓤 H (Con 𝓤 H (𝓖 .A) after.ended (after.clauses 𝓤 H (𝓖 .A) (𝓜 .mem) (𝓡 .run))) 𝓜 𝓡 code.env #reader·after
+    after-def.routine code.calls-reader·after (after-thm.met 𝓤 H 𝓜 𝓖 𝓡)))

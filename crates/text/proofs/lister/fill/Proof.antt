@@ -1,6 +1,7 @@
--- `text::lister::fill` meets its contract: a walk of its MIR by hand, with a loop. The reader lives in a local. Each turn asks it for the step at its place, passes the step with the reader's
--- slice and place to `put_line`, to which the text is lent again for a lifetime of the call, and the step to `behind`.
--- The loop's state is what was put so far (`Progressing`), and that the reader stands at the place of the next line. The measure is the turns left.
+-- `text::lister::fill` meets its contract: a walk of its MIR by hand, with a loop. The reader lives in a local. Each
+-- turn asks it for the step at its place, passes the step with the reader's slice and place to `put_line`, to which
+-- the text is lent again for a lifetime of the call, and the step to `behind`. The loop's state is what was put so
+-- far (`Progressing`), and that the reader stands at the place of the next line. The measure is the turns left.
 -- Assumes nothing.
 use mathlib.Core.Path.{_≡_, refl, sym, _∙_, ap, subst}
 use Prim.Native.Nat.{ℕ, suc, _-_, _<_, _≤_, _^_}
@@ -36,7 +37,8 @@ use denote.Plain.{uint-makes, uint-vals, uint-tells, bool-lawful}
 use denote.Builtin.{u8, u32, usize}
 use denote.Ref.{RefT, now}
 use denote.Signature.{plain}
-use denote.Slice.{sliceTy, sliceVal, ShrSlice, MutSlice, Room, slice-vals, shr-slice-tells, mut-slice-tells, shr-slice-lawful, shr-slice-copy}
+use denote.Slice.{sliceTy, sliceVal, ShrSlice, MutSlice, Room, slice-vals, shr-slice-tells, mut-slice-tells}
+use denote.Slice.{shr-slice-lawful, shr-slice-copy}
 use denote.Steps.{owned, peeks, nothing}
 use denote.Struct.Laws as LL
 use denote.Enum.Laws as EL
@@ -44,7 +46,8 @@ use denote.Triple.Statement.{Triple}
 use denote.Triple.Entry.{onEntry}
 use denote.Triple.Spec.{Meets, tripleOf}
 use denote.Triple.Table.{entered, cited}
-use denote.Triple.Walked.{says, needs, Stays, stay-none-slice, stay-slice, stay-none, walkOf, goes-none-slice, goes-slice, goes-none, Walks, ends-at, walked, walk-meets}
+use denote.Triple.Walked.{says, needs, Stays, stay-none-slice, stay-slice, stay-none, walkOf, goes-none-slice}
+use denote.Triple.Walked.{goes-slice, goes-none, Walks, ends-at, walked, walk-meets}
 use denote.Exit.{yes}
 use Rattle.op.specs.Names.{nameText, nameStarts}
 use Rattle.op.specs.Opcodes.{lastOpcode}
@@ -158,7 +161,8 @@ module _ {x w : RefT (List ℕ)} {at : ℕ} {ys : List ℕ} {to : ℕ} (s : At x
         subst (λ (y : RefT (List ℕ)). Told (now w) (now y) (s .p .at) (s .out) (s .p .to) q zs) (s .same)
         (subst (λ (n : ℕ). Told (now w) (now (s .r .code)) n (s .out) (s .p .to) q zs) (s .there more) l)
 
-    abbrev on : (v : Step) → v ≡ stepAt (s .r) → (r′ : InstructionReader) → (r′ .code ≡ s .r .code) × (r′ .at ≡ afterStep (length (now (s .r .code))) (s .r .at) v)
+    abbrev on : (v : Step) → v ≡ stepAt (s .r) → (r′ : InstructionReader)
+        → (r′ .code ≡ s .r .code) × (r′ .at ≡ afterStep (length (now (s .r .code))) (s .r .at) v)
         → Is P.the-row q (far q ∷ []) → At x w at ys to
     on v e r′ e′ is = record {
       r = r′;
@@ -174,7 +178,8 @@ module _ {x w : RefT (List ℕ)} {at : ℕ} {ys : List ℕ} {to : ℕ} (s : At x
     less = omega (arith, told .fewer, turns-left (now x) (s .p) more)
 
 module _ {M : Type 1} (𝓤 : URA M) (H : Heap 𝓤) (A : Atoms 𝓤) (W : Given 𝓤 H A) (mem : Memory → SProp 𝓤) (run : Routine → Fun 𝓤) (κ₀ κ₁ κ₂ κ₃ κ₄ : Lft) (q₀ q₁ q₂ q₃ q₄ : Share)
-    (x w t u : RefT (List ℕ)) (b o : ℕ) (γ : GName) (ys : List ℕ) (at to : ℕ) (at-fits : at < 2 ^ 64) (to-fits : to < 2 ^ 64)
+    (x w t u : RefT (List ℕ)) (b o : ℕ) (γ : GName) (ys : List ℕ) (at to : ℕ) (at-fits : at < 2 ^ 64)
+    (to-fits : to < 2 ^ 64)
     (pre : (now t ≡ nameText) × (now u ≡ nameStarts) × Lent (now x) (now w) ys to) where
   abbrev n : ℕ
   n = length ys
@@ -193,8 +198,16 @@ module _ {M : Type 1} (𝓤 : URA M) (H : Heap 𝓤) (A : Atoms 𝓤) (W : Given
   vals = (sv x ∷ [], (sv w ∷ [], (sv t ∷ [], (sv u ∷ [], (bv ∷ [], (vint w64 at ∷ [], (vint w64 to ∷ [], tt)))))))
 
   abbrev Post : Val → SProp 𝓤
-  Post = walkOf 𝓤 H A fill.ended stayed (fill.clauses 𝓤 H A mem run) .post
-      (((κ₀, (κ₁, (κ₂, (κ₃, (κ₄, tt))))), (q₀, (q₁, (q₂, (q₃, (q₄, tt))))), tt, (x, (w, (t, (u, (buf γ ys, (at, (to, tt))))))), vals), tt)
+  Post = walkOf 𝓤 H A fill.ended stayed (fill.clauses 𝓤 H A mem run) .post (
+    (
+      (κ₀, (κ₁, (κ₂, (κ₃, (κ₄, tt))))),
+      (q₀, (q₁, (q₂, (q₃, (q₄, tt))))),
+      tt,
+      (x, (w, (t, (u, (buf γ ys, (at, (to, tt))))))),
+      vals,
+    ),
+    tt,
+  )
 
   -- what the walk owns beside the reader and its locals: the tokens, and what each slice owns, the text at zs
   abbrev Depths : Fml
@@ -210,16 +223,27 @@ module _ {M : Type 1} (𝓤 : URA M) (H : Heap 𝓤) (A : Atoms 𝓤) (W : Given
   Buffer zs = MutSlice (named 4) κ₄ u8 .own (buf γ zs) (bv ∷ [])
 
   abbrev Front : List ℕ → List (Item 𝓤) → List (Item 𝓤)
-  Front zs Γ = ‵ (flft κ₀ q₀) ∷ ‵ (flft κ₁ q₁) ∷ ‵ (flft κ₂ q₂) ∷ ‵ (flft κ₃ q₃) ∷ ‵ (flft κ₄ q₄) ∷ ‵ (Own κ₀ x) ∷ ‵ Depths ∷ ‵ Texts ∷ ‵ Starts ∷ ‵ (Buffer zs) ∷ Γ
+  Front zs Γ = ‵ (flft κ₀ q₀) ∷ ‵ (flft κ₁ q₁) ∷ ‵ (flft κ₂ q₂) ∷ ‵ (flft κ₃ q₃) ∷ ‵ (flft κ₄ q₄) ∷ ‵ (Own κ₀ x)
+      ∷ ‵ Depths ∷ ‵ Texts ∷ ‵ Starts ∷ ‵ (Buffer zs) ∷ Γ
 
-  exits : (p : Progress) (zs : List ℕ) → Is P.the-row p (far p ∷ []) → length zs ≡ n → Fills (now w) (now x) at ys to p zs × (p .more ≡ false) → Sq W (Front zs []) (prop (Post (far p)))
+  exits : (p : Progress) (zs : List ℕ) → Is P.the-row p (far p ∷ []) → length zs ≡ n
+      → Fills (now w) (now x) at ys to p zs × (p .more ≡ false) → Sq W (Front zs []) (prop (Post (far p)))
   exits p zs is l e =
-      suffices ! _ (ends-at 𝓤 H A fill.ended stayed (fill.clauses 𝓤 H A mem run) W
-      (((κ₀, (κ₁, (κ₂, (κ₃, (κ₄, tt))))), (q₀, (q₁, (q₂, (q₃, (q₄, tt))))), tt, (x, (w, (t, (u, (buf γ ys, (at, (to, tt))))))), vals), tt) (far p) p
+      suffices ! _ (ends-at 𝓤 H A fill.ended stayed (fill.clauses 𝓤 H A mem run) W (
+        (
+          (κ₀, (κ₁, (κ₂, (κ₃, (κ₄, tt))))),
+          (q₀, (q₁, (q₂, (q₃, (q₄, tt))))),
+          tt,
+          (x, (w, (t, (u, (buf γ ys, (at, (to, tt))))))),
+          vals,
+        ),
+        tt,
+      ) (far p) p
       (tt, (tt, (tt, (tt, (zs, (tt, (tt, tt))))))) (tt, (tt, (tt, (tt, (l, (tt, (tt, tt)))))))) $ says ! e $
       nothing ! $ move ! (5 ∷ 0 ∷ []) $ join ! $ move ! (4 ∷ 0 ∷ []) $ join ! $ move ! (3 ∷ 0 ∷ []) $ join ! $ move ! (2 ∷ 0 ∷ []) $ join ! $ move ! (1 ∷ 0 ∷ []) $ join ! $ frame ! $
       -- [what code, depths, texts, starts and out own]
-      nothing ! $ owned ! usize (Is usize) (uint-makes 𝓤 H A W w64) to _ (refl, to-fits) $ fjoin ! $ owned ! usize (Is usize) (uint-makes 𝓤 H A W w64) at _ (refl, at-fits) $ fjoin ! $
+      nothing ! $ owned ! usize (Is usize) (uint-makes 𝓤 H A W w64) to _ (refl, to-fits) $ fjoin ! $
+      owned ! usize (Is usize) (uint-makes 𝓤 H A W w64) at _ (refl, at-fits) $ fjoin ! $
       move ! (5 ∷ 0 ∷ []) $ fjoin ! $ move ! (4 ∷ 0 ∷ []) $ fjoin ! $ move ! (3 ∷ 0 ∷ []) $ fjoin ! $ move ! (2 ∷ 0 ∷ []) $ fjoin ! $ move ! (1 ∷ 0 ∷ []) $ fjoin ! $ frame ! $
       owned ! P.the-row (Is P.the-row) (LL.makes P.the-type P′.the-plain 𝓤 H A) p _ is $ done !
 
@@ -237,7 +261,13 @@ module _ {M : Type 1} (𝓤 : URA M) (H : Heap 𝓤) (A : Atoms 𝓤) (W : Given
       (q₀, (q₁, (q₂, (q₃, (fullShare, tt))))),
       tt,
       (s .r .code, (s .r .at, (v, (w, (t, (u, (buf δ (s .out), (s .p .to, tt)))))))),
-      (sv (s .r .code) ∷ [], (vint w64 (s .r .at) ∷ [], (stepVal v ∷ [], (sv w ∷ [], (sv t ∷ [], (sv u ∷ [], (bv ∷ [], (vint w64 (s .p .to) ∷ [], tt)))))))),
+      (
+        sv (s .r .code) ∷ [],
+        (
+          vint w64 (s .r .at) ∷ [],
+          (stepVal v ∷ [], (sv w ∷ [], (sv t ∷ [], (sv u ∷ [], (bv ∷ [], (vint w64 (s .p .to) ∷ [], tt)))))),
+        ),
+      ),
     ),
     tt,
   )
@@ -246,8 +276,10 @@ module _ {M : Type 1} (𝓤 : URA M) (H : Heap 𝓤) (A : Atoms 𝓤) (W : Given
   to-behind r v = (((κ₀, tt), (q₀, tt), tt, (r, (v, tt)), (val κ₀ r ∷ [], (stepVal v ∷ [], tt))), tt)
 
   module _ (𝓣 : Tables 𝓤 H) (gx : Room u8 n)
-      (known-here : Triple 𝓤 (𝓣 .C #here) (Con 𝓤 H A here.ended (here.clauses 𝓤 H A mem run))) (known-put : Triple 𝓤 (𝓣 .C #put-line) (Con 𝓤 H A put-line.ended (put-line.clauses 𝓤 H A mem run)))
-      (known-behind : Triple 𝓤 (𝓣 .C #behind) (Con 𝓤 H A behind.ended (behind.clauses 𝓤 H A mem run))) (l₀ l₁ l₂ l₃ l₄ l₅ l₆ l₇ l₈ l₉ l₁₀ l₁₁ l₁₂ l₁₃ l₁₄ l₁₅ l₁₆ l₁₇ : ℕ) where
+      (known-here : Triple 𝓤 (𝓣 .C #here) (Con 𝓤 H A here.ended (here.clauses 𝓤 H A mem run)))
+      (known-put : Triple 𝓤 (𝓣 .C #put-line) (Con 𝓤 H A put-line.ended (put-line.clauses 𝓤 H A mem run)))
+      (known-behind : Triple 𝓤 (𝓣 .C #behind) (Con 𝓤 H A behind.ended (behind.clauses 𝓤 H A mem run)))
+      (l₀ l₁ l₂ l₃ l₄ l₅ l₆ l₇ l₈ l₉ l₁₀ l₁₁ l₁₂ l₁₃ l₁₄ l₁₅ l₁₆ l₁₇ : ℕ) where
     abbrev held : Ty
     held = T′.mir erased
 
@@ -257,25 +289,36 @@ module _ {M : Type 1} (𝓤 : URA M) (H : Heap 𝓤) (A : Atoms 𝓤) (W : Given
     abbrev En : Env 𝓤 H
     En = (P′.mir, l₀) ∷ (sliceTy (tyRef (named 0) imm (tyInt w8)), l₁) ∷ (sliceTy (tyRef (named 1) imm (tyInt w32)), l₂) ∷ (sliceTy (tyRef (named 2) imm (tyInt w8)), l₃)
         ∷ (sliceTy (tyRef (named 3) imm word), l₄) ∷ (sliceTy (tyRef (named 4) mut (tyInt w8)), l₅)
-        ∷ (word, l₆) ∷ (word, l₇) ∷ (held, l₈) ∷ (P′.mir, l₉) ∷ (S′.mir, l₁₀) ∷ (tyBool, l₁₁) ∷ (held, l₁₂) ∷ (sliceTy (tyRef erased imm (tyInt w8)), l₁₃) ∷ (word, l₁₄)
+        ∷ (word, l₆) ∷ (word, l₇) ∷ (held, l₈) ∷ (P′.mir, l₉) ∷ (S′.mir, l₁₀) ∷ (tyBool, l₁₁) ∷ (held, l₁₂)
+        ∷ (sliceTy (tyRef erased imm (tyInt w8)), l₁₃) ∷ (word, l₁₄)
         ∷ (tyRef erased mut (tyInt w8), l₁₅) ∷ (sliceTy (tyRef erased mut (tyInt w8)), l₁₆) ∷ (held, l₁₇) ∷ []
 
     -- the locals of which the loop's test finds none with a value
     abbrev later-locals : List (Item 𝓤) → List (Item 𝓤)
     later-locals Γ =
-        no held l₁₇ (no (sliceTy (tyRef erased mut (tyInt w8))) l₁₆ (no (tyRef erased mut (tyInt w8)) l₁₅ (no word l₁₄ (no (sliceTy (tyRef erased imm (tyInt w8))) l₁₃ (no held l₁₂
+        no held l₁₇ (no (sliceTy (tyRef erased mut (tyInt w8))) l₁₆
+        (no (tyRef erased mut (tyInt w8)) l₁₅
+        (no word l₁₄ (no (sliceTy (tyRef erased imm (tyInt w8))) l₁₃ (no held l₁₂
         (no tyBool l₁₁ (no S′.mir l₁₀ Γ)))))))
 
     -- where the loop's test is reached. Local k stands at 45 - 2 k
     abbrev I : At x w at ys to → List (Item 𝓤)
     I s =
-        ‵ (Rd κ₀ (s .r)) ∷ Front (s .out) (later-locals (has P′.mir l₉ (far (s .p)) (has held l₈ (val κ₀ (s .r)) (has word l₇ (vint w64 to) (has word l₆ (vint w64 at)
-        (has (sliceTy (tyRef (named 4) mut (tyInt w8))) l₅ bv (has (sliceTy (tyRef (named 3) imm word)) l₄ (sv u) (has (sliceTy (tyRef (named 2) imm (tyInt w8))) l₃ (sv t)
+        ‵ (Rd κ₀ (s .r)) ∷ Front (s .out)
+        (later-locals (has P′.mir l₉ (far (s .p))
+        (has held l₈ (val κ₀ (s .r)) (has word l₇ (vint w64 to) (has word l₆ (vint w64 at)
+        (has (sliceTy (tyRef (named 4) mut (tyInt w8))) l₅ bv
+        (has (sliceTy (tyRef (named 3) imm word)) l₄ (sv u)
+        (has (sliceTy (tyRef (named 2) imm (tyInt w8))) l₃ (sv t)
         (has (sliceTy (tyRef (named 1) imm (tyInt w32))) l₂ (sv w) (has (sliceTy (tyRef (named 0) imm (tyInt w8))) l₁ (sv x) (no P′.mir l₀ [])))))))))))
 
     -- the function returns p, and its locals are freed
-    leaves : (p : Progress) (zs : List ℕ) → Is P.the-row p (far p ∷ []) → length zs ≡ n → Fills (now w) (now x) at ys to p zs × (p .more ≡ false)
-        → Sq W (Front zs (later-locals (no P′.mir l₉ (no held l₈ (no word l₇ (no word l₆ (no (sliceTy (tyRef (named 4) mut (tyInt w8))) l₅ (no (sliceTy (tyRef (named 3) imm word)) l₄
+    leaves : (p : Progress) (zs : List ℕ) → Is P.the-row p (far p ∷ []) → length zs ≡ n
+        → Fills (now w) (now x) at ys to p zs × (p .more ≡ false)
+        → Sq W (Front zs (later-locals
+        (no P′.mir l₉ (no held l₈
+        (no word l₇ (no word l₆ (no (sliceTy (tyRef (named 4) mut (tyInt w8))) l₅
+        (no (sliceTy (tyRef (named 3) imm word)) l₄
         (no (sliceTy (tyRef (named 2) imm (tyInt w8))) l₃ (no (sliceTy (tyRef (named 1) imm (tyInt w32))) l₂ (no (sliceTy (tyRef (named 0) imm (tyInt w8))) l₁ (no P′.mir l₀ []))))))))))))
         (frees En (prop (Post (far p))))
     leaves p zs is l e =
@@ -288,17 +331,22 @@ module _ {M : Type 1} (𝓤 : URA M) (H : Heap 𝓤) (A : Atoms 𝓤) (W : Given
     turn s =
         peeks ! (B κ₀) (Is (B κ₀)) (shows 𝓤 H A (B κ₀)) (s .r) (val κ₀ (s .r) ∷ []) (λ is-r.
         let wr : Holds (hasTy held (val κ₀ (s .r))) × WT (val κ₀ (s .r)) = at-held κ₀ 𝓤 H A W (s .r) is-r in
-        let wp : Holds (hasTy P′.mir (far (s .p))) × WT (far (s .p)) = LL.lawful P.the-type P′.the-laws 𝓤 H A W .typed (s .p) _ (s .is) .0 in
-        assigns ! (of-opd ! (load ! (from ! (fld ! refl (stop !))) (look-in ! 27 (sub ! 2 refl (whole !))))) (from ! (stop !)) (init ! 23 refl (bool-lawful 𝓤 H A W .typed (s .p .more) (vbool (s .p .more) ∷ []) refl .0)) $
+        let wp : Holds (hasTy P′.mir (far (s .p))) × WT (far (s .p)) =
+        LL.lawful P.the-type P′.the-laws 𝓤 H A W .typed (s .p) _ (s .is) .0 in
+        assigns ! (of-opd ! (load ! (from ! (fld ! refl (stop !))) (look-in ! 27 (sub ! 2 refl (whole !)))))
+        (from ! (stop !)) (init ! 23 refl
+        (bool-lawful 𝓤 H A W .typed (s .p .more) (vbool (s .p .more) ∷ []) refl .0)) $
         tests ! (load ! (from ! (stop !)) (look ! 23 refl))
         -- there may be a line more: the reader is asked
         (λ h.
         assigns ! (of-opd ! (load ! (from ! (stop !)) (look ! 29 refl))) (from ! (stop !)) (init ! 21 refl wr) $
         use1 W (‵ (Rd κ₀ (s .r)) ⊛ ‵ (Rd κ₀ (s .r))) (again-had κ₀ 𝓤 H A W (s .r)) $ split ! $ nothing ! $ move ! (1 ∷ 0 ∷ []) $ fjoin ! $
         nothing ! $ move ! (3 ∷ 0 ∷ []) $ join ! $ use1 W (toks 𝓤 H A here.ended (here.clauses 𝓤 H A mem run) (to-here (s .r))) (id⊢ 𝓤 _) $
-        calls-told ! (fmOf 𝓤 H (W .laws) 𝓣) here.ended (here.clauses 𝓤 H A mem run) known-here (to-here (s .r)) (λ v. v ≡ stepAt (s .r)) (λ r ws. id⊢ 𝓤 _) (id⊢ 𝓤 _)
+        calls-told ! (fmOf 𝓤 H (W .laws) 𝓣) here.ended (here.clauses 𝓤 H A mem run) known-here (to-here (s .r))
+        (λ v. v ≡ stepAt (s .r)) (λ r ws. id⊢ 𝓤 _) (id⊢ 𝓤 _)
         stepVal (EL.tells S.the-type S′.the-laws) (and-then ! (load ! (from ! (stop !)) (look ! 21 refl)) (no-more !)) (λ v e is-v.
-        land ! (from ! (stop !)) (init ! 26 refl (EL.lawful S.the-type S′.the-laws 𝓤 H A W tt .typed v _ is-v .0)) $ drop ! $
+        land ! (from ! (stop !)) (init ! 26 refl (EL.lawful S.the-type S′.the-laws 𝓤 H A W tt .typed v _ is-v .0)) $
+        drop ! $
         use1 W (‵ (flft κ₀ q₀) ⊛ ‵ ftrue) (id⊢ 𝓤 _) $ split ! $ move ! (1 ∷ []) $ drop ! $ move ! (1 ∷ 0 ∷ []) $
         assigns ! (of-opd ! (load ! (from ! (fld ! refl (stop !))) (look-in ! 29 (sub ! 0 refl (whole !))))) (from ! (stop !)) (init ! 19 refl (tt, wr .1 .0)) $
         assigns ! (of-opd ! (load ! (from ! (fld ! refl (stop !))) (look-in ! 29 (sub ! 1 refl (whole !))))) (from ! (stop !)) (init ! 17 refl (tt, wr .1 .1 .0)) $
@@ -307,10 +355,14 @@ module _ {M : Type 1} (𝓤 : URA M) (H : Heap 𝓤) (A : Atoms 𝓤) (W : Given
         -- the text is lent again, for a lifetime ν of the call
         let long : length (s .out) ≡ n = filled-length (s .fills) in
         lft-new ! tt (λ ν. rewrite ! 11 (λ (m : ℕ). ‵ (MutSlice (named 4) κ₄ u8 .own (buf γ (s .out)) (sliceVal (b, o) m ∷ []))) (sym long) refl $ move ! (11 ∷ 6 ∷ []) $
-        use2 W (later (some (λ (δ : GName). ‵ (MutSlice (named 4) (ν ∷ []) u8 .own (buf δ (s .out)) (sliceVal (b, o) (length (s .out)) ∷ [])) ⊛ ‵ (LentAgain u8 κ₄ (ν ∷ []) q₄ γ b o δ (s .out)))))
+        use2 W (later (some (λ (δ : GName). ‵
+        (MutSlice (named 4) (ν ∷ []) u8 .own (buf δ (s .out)) (sliceVal (b, o) (length (s .out)) ∷ [])) ⊛ ‵
+        (LentAgain u8 κ₄ (ν ∷ []) q₄ γ b o δ (s .out)))))
         (lends-again u8 κ₄ (ν ∷ []) q₄ γ b o 𝓤 H A W (named 4) (named 4) (s .out)) $ await ! tt $ take ! (λ δ. split ! $
-        rewrite ! 0 (λ (m : ℕ). ‵ (MutSlice (named 4) (ν ∷ []) u8 .own (buf δ (s .out)) (sliceVal (b, o) m ∷ []))) long refl $
-        -- [the lent text; what its holder keeps; ν's token; what the reader owns; four tokens; what code, depths, texts and starts own; locals]: the arguments are put together from the last
+        rewrite ! 0 (λ (m : ℕ). ‵ (MutSlice (named 4) (ν ∷ []) u8 .own (buf δ (s .out)) (sliceVal (b, o) m ∷ []))) long
+        refl $
+        -- [the lent text; what its holder keeps; ν's token; what the reader owns; four tokens; what code, depths,
+        -- texts and starts own; locals]: the arguments are put together from the last
         nothing ! $ owned ! usize (Is usize) (uint-makes 𝓤 H A W w64) (s .p .to) _ (refl, wp .1 .1 .0 .fits) $ fjoin ! $ move ! (1 ∷ 0 ∷ []) $ fjoin ! $
         move ! (11 ∷ []) $ use1 W (‵ Starts ⊛ ‵ Starts) (shr-slice-copy 𝓤 H A W (named 3) κ₃ usize .twice u (sv u ∷ [])) $ split ! $ move ! (0 ∷ 2 ∷ []) $ fjoin ! $
         move ! (11 ∷ []) $ use1 W (‵ Texts ⊛ ‵ Texts) (shr-slice-copy 𝓤 H A W (named 2) κ₂ u8 .twice t (sv t ∷ [])) $ split ! $ move ! (0 ∷ 2 ∷ []) $ fjoin ! $
@@ -318,30 +370,39 @@ module _ {M : Type 1} (𝓤 : URA M) (H : Heap 𝓤) (A : Atoms 𝓤) (W : Given
         owned ! S.the-row (Is S.the-row) (EL.makes S.the-type S′.the-plain 𝓤 H A) v _ is-v $ fjoin ! $
         owned ! usize (Is usize) (uint-makes 𝓤 H A W w64) (s .r .at) _ (refl, wr .1 .1 .0 .fits) $ fjoin ! $
         move ! (6 ∷ []) $ use1 W (‵ (Own κ₀ (s .r .code)) ⊛ ‵ (Rd κ₀ (s .r))) (slice-of κ₀ 𝓤 H A W (s .r)) $ split ! $ move ! (0 ∷ 2 ∷ []) $ fjoin ! $
-        -- [the arguments; what the reader, depths, texts and starts own; what the text's holder keeps; ν's token; four tokens; what code owns; locals]
+        -- [the arguments; what the reader, depths, texts and starts own; what the text's holder keeps; ν's token;
+        -- four tokens; what code owns; locals]
         nothing ! $ move ! (7 ∷ 0 ∷ []) $ join ! $ move ! (10 ∷ 0 ∷ []) $ join ! $ move ! (9 ∷ 0 ∷ []) $ join ! $ move ! (8 ∷ 0 ∷ []) $ join ! $ move ! (7 ∷ 0 ∷ []) $ join ! $
         use1 W (toks 𝓤 H A put-line.ended (put-line.clauses 𝓤 H A mem run) (to-put s v ν δ)) (id⊢ 𝓤 _) $
         calls-left ! (fmOf 𝓤 H (W .laws) 𝓣) put-line.ended (put-line.clauses 𝓤 H A mem run) known-put (to-put s v ν δ)
         (λ p ws. Told (now w) (now (s .r .code)) (s .r .at) (s .out) (s .p .to) p (ws .1 .1 .1 .1 .1 .1 .0)) (λ r ws. id⊢ 𝓤 _)
-        (factI 𝓤 (Reading (now (s .r .code)) (s .r .at) v (now t) (now u) × Lent (now (s .r .code)) (now w) (s .out) (s .p .to)) (emp 𝓤)
+        (factI 𝓤 (Reading (now (s .r .code)) (s .r .at) v (now t) (now u)
+        × Lent (now (s .r .code)) (now w) (s .out) (s .p .to)) (emp 𝓤)
         (record { is = e; small = lent s h (pre .2) .small; text = pre .0; start = pre .1 }, lent s h (pre .2)))
         far (LL.tells P.the-type P′.the-laws) (and-then ! (load ! (from ! (stop !)) (look ! 15 refl)) (and-then ! (load ! (from ! (stop !)) (look ! 13 refl)) (and-then ! (load ! (from ! (stop !)) (look ! 21 refl))
-        (and-then ! (load ! (from ! (stop !)) (look ! 37 refl)) (and-then ! (load ! (from ! (stop !)) (look ! 35 refl)) (and-then ! (load ! (from ! (stop !)) (look ! 33 refl))
+        (and-then ! (load ! (from ! (stop !)) (look ! 37 refl))
+        (and-then ! (load ! (from ! (stop !)) (look ! 35 refl))
+        (and-then ! (load ! (from ! (stop !)) (look ! 33 refl))
         (and-then ! (load ! (from ! (stop !)) (look ! 9 refl)) (and-then ! (load ! (from ! (fld ! refl (stop !))) (look-in ! 23 (sub ! 1 refl (whole !)))) (no-more !))))))))) (λ p ws l is-p.
-        land ! (from ! (stop !)) (store ! 25 refl (LL.lawful P.the-type P′.the-laws 𝓤 H A W .typed p _ is-p .0)) $ drop ! $
-        -- [the tokens; what is last; what the reader, depths, texts and starts own; what the text's holder keeps; what code owns; locals]: ν is ended, and the text comes back at its last list
+        land ! (from ! (stop !)) (store ! 25 refl (LL.lawful P.the-type P′.the-laws 𝓤 H A W .typed p _ is-p .0)) $
+        drop ! $
+        -- [the tokens; what is last; what the reader, depths, texts and starts own; what the text's holder keeps;
+        -- what code owns; locals]: ν is ended, and the text comes back at its last list
         use1 W (‵ (flft κ₀ q₀) ⊛ (‵ (flft κ₁ q₁) ⊛ (‵ (flft κ₂ q₂) ⊛ (‵ (flft κ₃ q₃) ⊛ (‵ (flft (ν ∷ []) fullShare) ⊛ ‵ ftrue))))) (id⊢ 𝓤 _) $
         split ! $ move ! (1 ∷ []) $ split ! $ move ! (1 ∷ []) $ split ! $ move ! (1 ∷ []) $ split ! $ move ! (1 ∷ []) $ split ! $ lft-end ! tt $
         move ! (6 ∷ []) $ fsplit ! $ drop ! $ fsplit ! $ drop ! $ fsplit ! $ drop ! $ fsplit ! $ drop ! $ fsplit ! $ drop ! $ fsplit ! $ drop ! $ fsplit ! $ fsplit ! $ move ! (1 ∷ []) $ feqL ! (λ as-long.
         move ! (2 ∷ 12 ∷ 0 ∷ []) $ use3 W (later (‵ (MutSlice (named 4) κ₄ u8 .own (buf γ (ws .1 .1 .1 .1 .1 .1 .0)) (sliceVal (b, o) (length (s .out)) ∷ [])) ⊛ ‵ (flft κ₄ q₄)))
         (comes-back u8 κ₄ (ν ∷ []) q₄ γ b o 𝓤 H A W (named 4) (named 4) (s .out) δ (ws .1 .1 .1 .1 .1 .1 .0) (subst (Room u8) (sym long) gx) as-long) $ await ! tt $ split ! $
         rewrite ! 0 (λ (m : ℕ). ‵ (MutSlice (named 4) κ₄ u8 .own (buf γ (ws .1 .1 .1 .1 .1 .1 .0)) (sliceVal (b, o) m ∷ []))) long refl $
-        -- [the text; its token; true; true; four tokens; what the reader, depths, texts, starts and code own; locals]: the reader goes behind the step
+        -- [the text; its token; true; true; four tokens; what the reader, depths, texts, starts and code own;
+        -- locals]: the reader goes behind the step
         assigns ! (of-opd ! (load ! (from ! (stop !)) (look ! 31 refl))) (from ! (stop !)) (init ! 13 refl wr) $
         move ! (7 ∷ 3 ∷ []) $ join ! $ use1 W (toks 𝓤 H A behind.ended (behind.clauses 𝓤 H A mem run) (to-behind (s .r) v)) (id⊢ 𝓤 _) $
         nothing ! $ owned ! S.the-row (Is S.the-row) (EL.makes S.the-type S′.the-plain 𝓤 H A) v _ is-v $ fjoin ! $ move ! (8 ∷ 0 ∷ []) $ fjoin ! $ move ! (1 ∷ 0 ∷ []) $
-        calls-told-last ! (fmOf 𝓤 H (W .laws) 𝓣) behind.ended (behind.clauses 𝓤 H A mem run) known-behind (to-behind (s .r) v)
-        (λ r′. (r′ .code ≡ s .r .code) × (r′ .at ≡ afterStep (length (now (s .r .code))) (s .r .at) v)) (λ r ws. id⊢ 𝓤 _) (id⊢ 𝓤 _)
+        calls-told-last ! (fmOf 𝓤 H (W .laws) 𝓣) behind.ended (behind.clauses 𝓤 H A mem run) known-behind
+        (to-behind (s .r) v)
+        (λ r′. (r′ .code ≡ s .r .code) × (r′ .at ≡ afterStep (length (now (s .r .code))) (s .r .at) v))
+        (λ r ws. id⊢ 𝓤 _) (id⊢ 𝓤 _)
         (val κ₀) (LL.tells (D κ₀) (L κ₀)) (and-then ! (load ! (from ! (stop !)) (look ! 11 refl)) (and-then ! (load ! (from ! (stop !)) (look ! 25 refl)) (no-more !))) (λ r′ e′ is-r′.
         land-last ! (from ! (stop !)) (store ! 30 refl (at-held κ₀ 𝓤 H A W r′ is-r′)) $
         move ! (1 ∷ []) $ use1 W (‵ (flft κ₀ q₀) ⊛ ‵ ftrue) (id⊢ 𝓤 _) $ split ! $ move ! (1 ∷ 5 ∷ []) $ drop ! $ drop ! $ move ! (1 ∷ 0 ∷ 6 ∷ 5 ∷ 4 ∷ 3 ∷ 10 ∷ 7 ∷ 8 ∷ 9 ∷ 2 ∷ []) $
@@ -349,15 +410,20 @@ module _ {M : Type 1} (𝓤 : URA M) (H : Heap 𝓤) (A : Atoms 𝓤) (W : Given
         again ! _≺_ I s (on s h l v e r′ e′ is-p) (less s h l))))))))
         -- there is none: the function returns
         (λ h. exec ! (𝓣 .C) (𝓣 .Λ) En body.t-4 (atRet En Post) $
-        assigns ! (of-opd ! (load ! (from ! (stop !)) (look ! 27 refl))) (from ! (stop !)) (init ! 45 refl wp) $ returns ! (look ! 45 refl) $ drop ! $
-        forget ! 22 refl $ forget ! 26 refl $ forget ! 28 refl $ forget ! 30 refl $ forget ! 32 refl $ forget ! 34 refl $ forget ! 36 refl $ forget ! 38 refl $ forget ! 40 refl $ forget ! 42 refl $ forget ! 44 refl $
+        assigns ! (of-opd ! (load ! (from ! (stop !)) (look ! 27 refl))) (from ! (stop !)) (init ! 45 refl wp) $
+        returns ! (look ! 45 refl) $ drop ! $
+        forget ! 22 refl $ forget ! 26 refl $ forget ! 28 refl $ forget ! 30 refl $ forget ! 32 refl $
+        forget ! 34 refl $ forget ! 36 refl $ forget ! 38 refl $ forget ! 40 refl $ forget ! 42 refl $
+        forget ! 44 refl $
         leaves (s .p) (s .out) (s .is) (filled-length (s .fills)) (s .fills, falsity (s .p .more) h)))
 
     looped : (s : At x w at ys to) → Sq W (I s) (runs (𝓣 .C) (𝓣 .Λ) En body.t-3 (atRet En Post))
-    looped s = first ! $ blocks ! $ loops ! 𝓣 _≺_ (InvImage·wf (λ (s′ : At x w at ys to). turns (now x) (s′ .p)) (Nat·lt-wfRel .wf)) I turn s
+    looped s = first ! $ blocks ! $ loops ! 𝓣 _≺_
+        (InvImage·wf (λ (s′ : At x w at ys to). turns (now x) (s′ .p)) (Nat·lt-wfRel .wf)) I turn s
 
   module _ (𝓣 : Tables 𝓤 H) (known-new : Triple 𝓤 (𝓣 .C #new) (Con 𝓤 H A new.ended (new.clauses 𝓤 H A mem run)))
-      (known-here : Triple 𝓤 (𝓣 .C #here) (Con 𝓤 H A here.ended (here.clauses 𝓤 H A mem run))) (known-put : Triple 𝓤 (𝓣 .C #put-line) (Con 𝓤 H A put-line.ended (put-line.clauses 𝓤 H A mem run)))
+      (known-here : Triple 𝓤 (𝓣 .C #here) (Con 𝓤 H A here.ended (here.clauses 𝓤 H A mem run)))
+      (known-put : Triple 𝓤 (𝓣 .C #put-line) (Con 𝓤 H A put-line.ended (put-line.clauses 𝓤 H A mem run)))
       (known-behind : Triple 𝓤 (𝓣 .C #behind) (Con 𝓤 H A behind.ended (behind.clauses 𝓤 H A mem run))) where
     -- the first progress
     abbrev p₀ : Progress
@@ -371,7 +437,8 @@ module _ {M : Type 1} (𝓤 : URA M) (H : Heap 𝓤) (A : Atoms 𝓤) (W : Given
 
     walk : Is (ShrSlice (named 0) κ₀ u8) x (sv x ∷ []) → Is (ShrSlice (named 1) κ₁ u32) w (sv w ∷ []) → Is (ShrSlice (named 2) κ₂ u8) t (sv t ∷ [])
         → Is (ShrSlice (named 3) κ₃ usize) u (sv u ∷ []) → Room u8 n
-        → ent 𝓤 (onEntry 𝓤 H A fill.signature (κ₀, (κ₁, (κ₂, (κ₃, (κ₄, tt))))) (q₀, (q₁, (q₂, (q₃, (q₄, tt))))) (x, (w, (t, (u, (buf γ ys, (at, (to, tt))))))) vals)
+        → ent 𝓤 (onEntry 𝓤 H A fill.signature (κ₀, (κ₁, (κ₂, (κ₃, (κ₄, tt))))) (q₀, (q₁, (q₂, (q₃, (q₄, tt)))))
+        (x, (w, (t, (u, (buf γ ys, (at, (to, tt))))))) vals)
         (WpFn 𝓤 H (𝓣 .C) (𝓣 .Λ) code.function (sv x ∷ sv w ∷ sv t ∷ sv u ∷ bv ∷ vint w64 at ∷ vint w64 to ∷ []) Post)
     walk ix iw it iu gx =
         qed W ((‵ (flft κ₀ q₀) ⊛ (‵ (flft κ₁ q₁) ⊛ (‵ (flft κ₂ q₂) ⊛ (‵ (flft κ₃ q₃) ⊛ (‵ (flft κ₄ q₄) ⊛ ‵ ftrue)))))
@@ -388,21 +455,28 @@ module _ {M : Type 1} (𝓤 : URA M) (H : Heap 𝓤) (A : Atoms 𝓤) (W : Given
         nothing ! $ owned ! usize (Is usize) (uint-makes 𝓤 H A W w64) at _ (refl, at-fits) $ fjoin ! $ move ! (1 ∷ 0 ∷ []) $ fjoin ! $
         -- [the arguments; what code owns; what the other parameters own; locals; the tokens]
         move ! (39 ∷ []) $ split ! $ nothing ! $ move ! (1 ∷ 0 ∷ []) $ join ! $ use1 W (toks 𝓤 H A new.ended (new.clauses 𝓤 H A mem run) to-new) (id⊢ 𝓤 _) $ move ! (0 ∷ 2 ∷ []) $
-        calls-told ! (fmOf 𝓤 H (W .laws) 𝓣) new.ended (new.clauses 𝓤 H A mem run) known-new to-new (λ d. (d .code ≡ x) × (d .at ≡ at)) (λ r ws. id⊢ 𝓤 _) (id⊢ 𝓤 _)
-        (val κ₀) (LL.tells (D κ₀) (L κ₀)) (and-then ! (load ! (from ! (stop !)) (look ! 36 refl)) (and-then ! (load ! (from ! (stop !)) (look ! 26 refl)) (no-more !))) (λ d e is-d.
+        calls-told ! (fmOf 𝓤 H (W .laws) 𝓣) new.ended (new.clauses 𝓤 H A mem run) known-new to-new
+        (λ d. (d .code ≡ x) × (d .at ≡ at)) (λ r ws. id⊢ 𝓤 _) (id⊢ 𝓤 _)
+        (val κ₀) (LL.tells (D κ₀) (L κ₀))
+        (and-then ! (load ! (from ! (stop !)) (look ! 36 refl))
+        (and-then ! (load ! (from ! (stop !)) (look ! 26 refl)) (no-more !))) (λ d e is-d.
         land ! (from ! (stop !)) (init ! 23 refl (at-held κ₀ 𝓤 H A W d is-d)) $
-        assigns ! (agg ! (and-then ! (load ! (from ! (stop !)) (look ! 27 refl)) (and-then ! (load ! (from ! (stop !)) (look ! 25 refl)) (and-then ! (true-lit !) (and-then ! (false-lit !) (no-more !)))))) (from ! (stop !))
+        assigns ! (agg ! (and-then ! (load ! (from ! (stop !)) (look ! 27 refl))
+        (and-then ! (load ! (from ! (stop !)) (look ! 25 refl))
+        (and-then ! (true-lit !) (and-then ! (false-lit !) (no-more !)))))) (from ! (stop !))
         (init ! 21 refl (LL.lawful P.the-type P′.the-laws 𝓤 H A W .typed p₀ _ is-first .0)) $
         -- [what the reader owns; its token; the other tokens; what code owns; what the other parameters own; locals]
         move ! (4 ∷ []) $ fsplit ! $ move ! (1 ∷ []) $ fsplit ! $ move ! (1 ∷ []) $ fsplit ! $ move ! (1 ∷ []) $ fsplit ! $ move ! (1 ∷ []) $ drop ! $
         move ! (5 ∷ []) $ use1 W (‵ (flft κ₀ q₀) ⊛ ‵ ftrue) (id⊢ 𝓤 _) $ split ! $ move ! (1 ∷ []) $ drop ! $
         move ! (6 ∷ []) $ split ! $ move ! (1 ∷ []) $ split ! $ move ! (1 ∷ []) $ split ! $ move ! (1 ∷ []) $ split ! $ move ! (1 ∷ []) $ drop ! $
         move ! (9 ∷ 4 ∷ 3 ∷ 2 ∷ 1 ∷ 0 ∷ 10 ∷ 8 ∷ 7 ∷ 6 ∷ 5 ∷ []) $
-        looped 𝓣 gx known-here known-put known-behind l₀ l₁ l₂ l₃ l₄ l₅ l₆ l₇ l₈ l₉ l₁₀ l₁₁ l₁₂ l₁₃ l₁₄ l₁₅ l₁₆ l₁₇ (start d e))))))))))))))))))))
+        looped 𝓣 gx known-here known-put known-behind l₀ l₁ l₂ l₃ l₄ l₅ l₆ l₇ l₈ l₉ l₁₀ l₁₁ l₁₂ l₁₃ l₁₄ l₁₅ l₁₆ l₁₇
+        (start d e))))))))))))))))))))
 
 module _ {M : Type 1} (𝓤 : URA M) (H : Heap 𝓤) (A : Atoms 𝓤) (W : Given 𝓤 H A) (mem : Memory → SProp 𝓤) (run : Routine → Fun 𝓤) (𝓣 : Tables 𝓤 H)
     (known-new : Triple 𝓤 (𝓣 .C #new) (Con 𝓤 H A new.ended (new.clauses 𝓤 H A mem run)))
-    (known-here : Triple 𝓤 (𝓣 .C #here) (Con 𝓤 H A here.ended (here.clauses 𝓤 H A mem run))) (known-put : Triple 𝓤 (𝓣 .C #put-line) (Con 𝓤 H A put-line.ended (put-line.clauses 𝓤 H A mem run)))
+    (known-here : Triple 𝓤 (𝓣 .C #here) (Con 𝓤 H A here.ended (here.clauses 𝓤 H A mem run)))
+    (known-put : Triple 𝓤 (𝓣 .C #put-line) (Con 𝓤 H A put-line.ended (put-line.clauses 𝓤 H A mem run)))
     (known-behind : Triple 𝓤 (𝓣 .C #behind) (Con 𝓤 H A behind.ended (behind.clauses 𝓤 H A mem run))) where
   fill-walks : Walks 𝓤 H A fill.ended stayed (WpFn 𝓤 H (𝓣 .C) (𝓣 .Λ) code.function) (fill.clauses 𝓤 H A mem run)
   fill-walks = walked 𝓤 H A fill.ended stayed (fill.clauses 𝓤 H A mem run) (WpFn 𝓤 H (𝓣 .C) (𝓣 .Λ) code.function)
@@ -436,12 +510,19 @@ module _ {M : Type 1} (𝓤 : URA M) (H : Heap 𝓤) (A : Atoms 𝓤) (W : Given
         goes-none-slice 𝓤 H A W 5 (2 ∷ []) tt (plain (λ _. u8)) yes,
         (
           goes-none-slice 𝓤 H A W 5 (3 ∷ []) tt (plain (λ _. usize)) yes,
-          (goes-slice 𝓤 H A W 5 4 tt (plain (λ _. u8)), (goes-none 𝓤 H A W 5 (λ _. usize) yes (λ κs x f. refl), (goes-none 𝓤 H A W 5 (λ _. usize) yes (λ κs x f. refl), tt))),
+          (
+            goes-slice 𝓤 H A W 5 4 tt (plain (λ _. u8)),
+            (
+              goes-none 𝓤 H A W 5 (λ _. usize) yes (λ κs x f. refl),
+              (goes-none 𝓤 H A W 5 (λ _. usize) yes (λ κs x f. refl), tt),
+            ),
+          ),
         ),
       ),
     ),
   )
-      (fill.clauses 𝓤 H A mem run) (WpFn 𝓤 H (𝓣 .C) (𝓣 .Λ) code.function) (WpFn-mono 𝓤 H (W .laws) 𝓣 code.function) fill-walks
+      (fill.clauses 𝓤 H A mem run) (WpFn 𝓤 H (𝓣 .C) (𝓣 .Λ) code.function) (WpFn-mono 𝓤 H (W .laws) 𝓣 code.function)
+      fill-walks
 
 pub fill-spec : {M : Type 1} → stated.statement M
 unfolding code.routine tablesOf
@@ -449,7 +530,11 @@ fill-spec 𝓤 H 𝓜 𝓖 𝓡 =
     entered 𝓤 H (tripleOf 𝓤 H (𝓖 .A) fill.signature (fill.spec 𝓤 H (𝓖 .A) (𝓜 .mem) (𝓡 .run)))
     (tables 𝓤 H 𝓜 𝓡 code.env .C) (tables 𝓤 H 𝓜 𝓡 code.env .Λ) #fill code.function (code.unfolded 𝓤 H 𝓜 𝓡)
     (fill-meets 𝓤 H (𝓖 .A) (givenOf 𝓤 H 𝓜 𝓖) (𝓜 .mem) (𝓡 .run) (tablesOf 𝓤 H 𝓜 (tables 𝓤 H 𝓜 𝓡 code.env))
-    (cited 𝓤 H (Con 𝓤 H (𝓖 .A) new.ended (new.clauses 𝓤 H (𝓖 .A) (𝓜 .mem) (𝓡 .run))) 𝓜 𝓡 code.env #new new-def.routine code.calls-reader·InstructionReader·new (new-thm.met 𝓤 H 𝓜 𝓖 𝓡))
-    (cited 𝓤 H (Con 𝓤 H (𝓖 .A) here.ended (here.clauses 𝓤 H (𝓖 .A) (𝓜 .mem) (𝓡 .run))) 𝓜 𝓡 code.env #here here-def.routine code.calls-reader·InstructionReader·here (here-thm.met 𝓤 H 𝓜 𝓖 𝓡))
-    (cited 𝓤 H (Con 𝓤 H (𝓖 .A) put-line.ended (put-line.clauses 𝓤 H (𝓖 .A) (𝓜 .mem) (𝓡 .run))) 𝓜 𝓡 code.env #put-line put-line-def.routine code.calls-text·lister·put-line (put-line-thm.met 𝓤 H 𝓜 𝓖 𝓡))
-    (cited 𝓤 H (Con 𝓤 H (𝓖 .A) behind.ended (behind.clauses 𝓤 H (𝓖 .A) (𝓜 .mem) (𝓡 .run))) 𝓜 𝓡 code.env #behind behind-def.routine code.calls-reader·InstructionReader·behind (behind-thm.met 𝓤 H 𝓜 𝓖 𝓡)))
+    (cited 𝓤 H (Con 𝓤 H (𝓖 .A) new.ended (new.clauses 𝓤 H (𝓖 .A) (𝓜 .mem) (𝓡 .run))) 𝓜 𝓡 code.env #new new-def.routine
+    code.calls-reader·InstructionReader·new (new-thm.met 𝓤 H 𝓜 𝓖 𝓡))
+    (cited 𝓤 H (Con 𝓤 H (𝓖 .A) here.ended (here.clauses 𝓤 H (𝓖 .A) (𝓜 .mem) (𝓡 .run))) 𝓜 𝓡 code.env #here
+    here-def.routine code.calls-reader·InstructionReader·here (here-thm.met 𝓤 H 𝓜 𝓖 𝓡))
+    (cited 𝓤 H (Con 𝓤 H (𝓖 .A) put-line.ended (put-line.clauses 𝓤 H (𝓖 .A) (𝓜 .mem) (𝓡 .run))) 𝓜 𝓡 code.env #put-line
+    put-line-def.routine code.calls-text·lister·put-line (put-line-thm.met 𝓤 H 𝓜 𝓖 𝓡))
+    (cited 𝓤 H (Con 𝓤 H (𝓖 .A) behind.ended (behind.clauses 𝓤 H (𝓖 .A) (𝓜 .mem) (𝓡 .run))) 𝓜 𝓡 code.env #behind
+    behind-def.routine code.calls-reader·InstructionReader·behind (behind-thm.met 𝓤 H 𝓜 𝓖 𝓡)))
