@@ -58,7 +58,7 @@ static void step(const char *what, const uint8_t *code, size_t length, size_t at
 /* Code that is too long to list and to count. */
 static uint8_t long_code[1048577];
 
-/* The document's nine bytes. */
+/* Example A's nine bytes. */
 static const uint8_t nine[] = {0x06, 0x5A, 0x03, 0x00, 0x08, 0x07, 0x00, 0x05, 0x65};
 
 static void nine_bytes(void)
@@ -263,7 +263,7 @@ static void listings(void)
 
 static void handlers(void)
 {
-    /* the document's example: 2..8 to 20, 0..10 to 30; behind them a part of a row */
+    /* example H: 2..8 to 20, 0..10 to 30; behind them a part of a row */
     static const uint32_t rows[] = {2, 8, 20, 1, 0, 0, 0, 10, 30, 5, 6, 1, 0, 100, 40};
     static const uint32_t deep[] = {2, 8, 20, 1, 0, 0, 0, 10, 30, 65536, 6, 1};
     static const uint64_t inner[] = {0, 2, 8, 20, 1, 0, 0}, outer[] = {1, 0, 10, 30, 5, 6, 1};

@@ -1,4 +1,4 @@
--- Two records of the exception table given as twelve numbers, and what the lookup over them tells: document 01, "Lookups"; refusal 19.
+-- Two records of the exception table given as twelve numbers, and what the lookup over them tells: R22, R45; refusal 19.
 -- Assumes nothing.
 use mathlib.Core.Bool.{cond}
 use mathlib.Core.List.{List, [], _∷_}

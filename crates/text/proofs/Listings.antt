@@ -17,7 +17,7 @@ use Rattle.text.specs.Fitting.{lineTo, fit, listedOf, listedIn, Lists}
 use Rattle.text.specs.Lines.{linesFrom, linesAt, listedCode, plainLines, checkedHeader, checkedLines}
 use Rattle.text.specs.Lines.{ListsChecked}
 use Rattle.text.specs.Listing.{most, firstLine}
-use Rattle.text.specs.Progress.{Goes}
+use Rattle.text.specs.Inner.{Goes}
 use Rattle.text.specs.Put.{Places, placedOf, written}
 use Rattle.text.specs.declared.Listed.{Listed}
 use Rattle.text.specs.declared.Listed.the-variants as L

@@ -28,8 +28,8 @@ use Rattle.text.specs.Fitting.{Line, lineTo, Part, noLine, onto, fit, sa
 use Rattle.text.specs.Lines.{depthText, columnOf, endLine, endLines, linesFrom, linesAt}
 use Rattle.text.specs.Fields.{lineText, Lean}
 use Rattle.text.specs.Listing.{faultLine, lineOf}
-use Rattle.text.specs.Progress.{wentBy, stepText, stepNext, stepMore, Steps, Lent, left, turns, Fills, Told}
-use Rattle.text.specs.Progress.{saidBy, Goes}
+use Rattle.text.specs.Inner.{wentBy, stepText, stepNext, stepMore, Steps, Lent, left, turns, Fills, Told}
+use Rattle.text.specs.Inner.{saidBy, Goes}
 use Rattle.text.specs.Put.{Put, Places, placedOf, written}
 use Rattle.text.specs.declared.lister.Progress.{Progress}
 use Rattle.text.specs.declared.Listed.{Listed}

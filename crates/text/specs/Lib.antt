@@ -6,7 +6,7 @@ pub mod Row
 pub mod Listing
 pub mod Fitting
 pub mod Lines
-pub mod Progress
+pub mod Inner
 pub mod Joined
 pub mod Fields
 pub mod Reading

@@ -7,7 +7,7 @@ ghost use lib.ListN.{length};
 ghost use Rattle.op.specs.Names.{nameText, nameStarts};
 ghost use Rattle.code.specs.declared.Step.the-variants.{End};
 ghost use Rattle.text.specs.Lines.{depthText, columnOf};
-ghost use Rattle.text.specs.Progress.{wentBy, Stepped, Steps, Lent, Told, Reading, Fills};
+ghost use Rattle.text.specs.Inner.{wentBy, Stepped, Steps, Lent, Told, Reading, Fills};
 ghost use Rattle.text.specs.Put.{Put};
 use crate::Placed;
 use crate::lines;

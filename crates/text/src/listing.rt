@@ -9,7 +9,7 @@ ghost use lib.ListN.{length};
 ghost use Rattle.text.specs.Fitting.{Lists};
 ghost use Rattle.text.specs.Lines.{plainLines, ListsChecked};
 ghost use Rattle.text.specs.Listing.{most};
-ghost use Rattle.text.specs.Progress.{Lent, Goes, saidBy};
+ghost use Rattle.text.specs.Inner.{Lent, Goes, saidBy};
 use crate::Listed;
 use crate::Placed;
 use crate::lines;

@@ -76,7 +76,7 @@ use Rattle.reader.proofs.InstructionReader.behind as behind
 use Rattle.reader.proofs.InstructionReader.behind.Symbol as behind-def
 use Rattle.reader.proofs.InstructionReader.behind.Symbol.{name as #behind}
 use Rattle.reader.proofs.InstructionReader.behind.Met as behind-thm
-use Rattle.text.specs.Progress.{turns, Reading, Lent, Fills, Told}
+use Rattle.text.specs.Inner.{turns, Reading, Lent, Fills, Told}
 use Rattle.text.specs.declared.lister.Progress.{Progress}
 use Rattle.text.proofs.lister.Progress as P
 use Rattle.text.proofs.lister.Progress.Laws as P′

@@ -1,7 +1,7 @@
 -- `text::lister::went` meets its contract, by the cases of what was placed.
 -- Assumes nothing.
 use mathlib.Core.Path.{sym, ap}
-use Rattle.text.specs.Progress.{wentBy}
+use Rattle.text.specs.Inner.{wentBy}
 use Rattle.text.specs.declared.Placed.{Placed}
 use borrow.Author.Needs.{needs}
 use Rattle.text.proofs.lister.went.Statement.{statement}

@@ -4,7 +4,7 @@ use mathlib.Core.Path.{_≡_, ap}
 use Prim.Native.Nat.{ℕ, suc, _+_}
 use native.Mathlib.Omega.{arith}
 use borrow.Author.Tests.{le-leb, lt-leb}
-use Rattle.text.specs.Progress.{saidBy}
+use Rattle.text.specs.Inner.{saidBy}
 use Rattle.text.specs.declared.Listed.the-variants.{Part}
 use borrow.Author.Needs.{needs}
 use Rattle.text.proofs.listing.said.Statement.{statement}

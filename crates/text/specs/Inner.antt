@@ -1,4 +1,4 @@
--- What the functions that make a part of a listing promise each other; no rule of document 01.
+-- What the functions that make a part of a listing promise each other.
 -- Assumes nothing.
 use mathlib.Core.Path.{_≡_}
 use mathlib.Core.Bool.{Bool, true, false, cond}
