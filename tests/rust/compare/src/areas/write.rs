@@ -61,27 +61,29 @@ fn write(out: &mut [u8], instruction: &Instruction) -> Answer {
 
 /// Every opcode byte with every shape byte, with names and without, with values too wide for their field.
 fn refused(tally: &mut Tally, plan: &mut Plan) {
+    let names: Vec<u16> = (0..1_000).map(|_| plan.random.u16()).collect();
     for byte in 0..=u8::MAX {
         for shape in 0..=u8::MAX {
             let counts = if shape < SHAPES || !plan.quick { COUNTS.len() } else { 1 };
             for &count in &COUNTS[..counts] {
                 let fields = random_fields(shape, &mut plan.random);
-                wrong(tally, plan, byte, shape, fields, count);
+                let at = plan.random.below(names.len() - count);
+                let names = &names[at..at + count];
+                wrong(tally, plan, byte, shape, fields, names);
                 let wide = Fields {
                     a: 256 + plan.random.u16() / 2,
                     b: 256 + plan.random.u16() / 2,
                     ..fields
                 };
-                wrong(tally, plan, byte, shape, wide, count);
+                wrong(tally, plan, byte, shape, wide, names);
             }
         }
     }
 }
 
 /// Compares where something is wrong with the arguments; room is there or not.
-fn wrong(tally: &mut Tally, plan: &mut Plan, byte: u8, shape: u8, fields: Fields, count: usize) {
-    let names: Vec<u16> = (0..count).map(|_| plan.random.u16()).collect();
-    let Some(expected) = refusal(byte, shape, fields, &names) else {
+fn wrong(tally: &mut Tally, plan: &mut Plan, byte: u8, shape: u8, fields: Fields, names: &[u16]) {
+    let Some(expected) = refusal(byte, shape, fields, names) else {
         return;
     };
     let filling = plan.random.u8();
@@ -91,13 +93,13 @@ fn wrong(tally: &mut Tally, plan: &mut Plan, byte: u8, shape: u8, fields: Fields
     } else {
         plan.random.below(8)
     };
-    let answer = proved::write(&mut out[..room], byte, shape, fields, &names);
+    let answer = proved::write(&mut out[..room], byte, shape, fields, names);
     let expected = Expected {
         answer: (expected.answer, vec![filling; 640]),
         by: expected.by,
     };
     tally.compare((answer, out), expected, || {
-        format!("{}, shape {shape}, {fields:?}, {count} names, room {room}", named(byte))
+        format!("{}, shape {shape}, {fields:?}, {} names, room {room}", named(byte), names.len())
     });
 }
 
