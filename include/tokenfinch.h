@@ -32,7 +32,7 @@ static inline uint32_t tf_refusal(tf_answer a) { return (uint32_t)(a >> 32); }
 static inline int32_t tf_value(tf_answer a) { return (int32_t)(uint32_t)(a & 0xFFFFFFFFu); }
 
 /* What a refusal names: for 18 the table, TF_TABLE_..; for 22, and for 1 of an opcode that was read from code, the
- * offset modulo 2^32; else 0. */
+ * offset modulo 2^32; of tf_read_listing the line, from 1 on and modulo 2^32; else 0. */
 static inline uint32_t tf_named(tf_answer a) { return (uint32_t)(a & 0xFFFFFFFFu); }
 
 /* The refusals that the functions of this header give. */
@@ -59,7 +59,9 @@ enum {
     TF_BAD_STARTS = 20,         /* an odd number, a depth over 65,535, or an offset that is no place in the code */
     TF_SHORT_DEPTHS = 21,       /* fewer depths than bytes of code and one */
     TF_CUT_SHORT = 22,          /* an instruction is cut short by the code's end */
-    TF_NO_DEPTHS = 23           /* no depths can be given to the instructions */
+    TF_NO_DEPTHS = 23,          /* no depths can be given to the instructions */
+    TF_NOT_A_LINE = 24,         /* a line that no listing without fault has there; names the line */
+    TF_DISAGREES = 25           /* an offset or a target that is not the one that results; names the line */
 };
 
 /* What tf_named says of 18: what is too short. */
@@ -271,6 +273,19 @@ tf_answer tf_list(const uint8_t *code, size_t length, size_t from, uint8_t *text
  * text. A refusal writes nothing. */
 tf_answer tf_check_listing(const uint8_t *code, size_t length, const uint32_t *depths, size_t cells, size_t from,
                            uint8_t *text, size_t room, uint64_t *told, size_t told_room);
+
+/* Reads a listing back: text, of text_len bytes, as tf_list makes it of code without a fault, and nothing looser. Its
+ * instructions, dead ones too, are written to the front of code, which has code_len bytes. Value: how many bytes they are. What
+ * is read gives that listing again, byte by byte. Depths are not looked at: tf_check is for that.
+ *
+ *     tf_answer a = tf_read_listing(text, text_len, code, sizeof code);
+ *     if (tf_refusal(a) != 0) printf("line %u: refused %u\n", tf_named(a), tf_refusal(a));
+ *
+ * Refuses at the first bad line and names it, the header being line 1: 24 where it is not formed as a line of a listing (tabs, LF,
+ * a name, numbers without a zero or a + in front, each in its range, as many as the opcode has; no text is 24 at line 1); then 25 where
+ * its offset is not the one that results, or a target not that offset + 3 + displacement; then 18 where the instruction ends
+ * past code or past 65,536 bytes. A refusal writes nothing; no byte behind those of the instructions is ever written. */
+tf_answer tf_read_listing(const uint8_t *text, size_t text_len, uint8_t *code, size_t code_len);
 
 /* ---- Lookups in the tables of compiled code
  *

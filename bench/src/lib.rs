@@ -6,6 +6,7 @@ pub mod decode;
 pub mod emission;
 pub mod listing;
 pub mod lookups;
+pub mod readback;
 pub mod rules;
 
 use std::{env, ffi::OsStr, process::Command};

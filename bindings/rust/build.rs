@@ -8,10 +8,11 @@ use std::{
 };
 
 fn main() {
-    if env::var("CARGO_CFG_TARGET_ARCH").as_deref() != Ok("x86_64") {
+    println!("cargo::rerun-if-env-changed=TOKENFINCH_ARCHIVE");
+    let named = env::var_os("TOKENFINCH_ARCHIVE").is_some();
+    if !named && env::var("CARGO_CFG_TARGET_ARCH").as_deref() != Ok("x86_64") {
         refuse("the archive of the proved library links only into programs for x86-64: use tools/x86 cargo");
     }
-    println!("cargo::rerun-if-env-changed=TOKENFINCH_ARCHIVE");
     let archive = match env::var_os("TOKENFINCH_ARCHIVE") {
         Some(named) => found(PathBuf::from(named)),
         None => of_repository(),

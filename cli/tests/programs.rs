@@ -135,6 +135,12 @@ fn what_is_no_good_is_one_line_and_status_2() {
         &["check", folder],
         &["check", "-", "0"],
         &["check", "-", "0:0", "x:y"],
+        &["compile"],
+        &["compile", "no-such-file"],
+        &["compile", folder],
+        &["compile", "-", "0"],
+        &["compile", "-", "-o"],
+        &["compile", "-", "0:0", "--unchecked"],
         &["opcodes", "more"],
         &["replay", "more"],
     ] {
@@ -158,6 +164,186 @@ fn help_is_the_file_that_the_script_shows() {
     }
 }
 
+const HEADER: &str = "offset\tname\toperands\ttarget\n";
+
+/// The listing of so many Nops.
+fn nops(count: usize) -> String {
+    let lines = (0..count).map(|at| format!("{at}\tNop\t-\t-\n"));
+    lines.fold(HEADER.to_owned(), |text, line| text + &line)
+}
+
+/// What `compile` says of a listing that it refuses, behind the listing's name; nothing is written then.
+fn refused(words: &[&str], lines: &str) -> String {
+    let output = rules(
+        &[&["compile", "-"], words].concat(),
+        format!("{HEADER}{lines}").as_bytes(),
+    );
+    assert_eq!(output.status.code(), Some(1), "{lines}");
+    assert!(output.stdout.is_empty());
+    let said = text(&output.stderr);
+    said.strip_prefix('-')
+        .and_then(|said| said.strip_suffix('\n'))
+        .expect("one line")
+        .to_owned()
+}
+
+#[test]
+fn listings_are_compiled_back() {
+    for rule in ["nine-bytes", "brake", "brake-broken"] {
+        let code = fs::read(repository(&format!("examples/{rule}.rule"))).expect("the rule is there");
+        let compiled = rules(&["compile", "-", "--unchecked"], &tokenfinch::listing(&code));
+        assert_eq!((compiled.status.code(), compiled.stdout), (Some(0), code), "{rule}");
+    }
+    for count in [0, 1, 65_536] {
+        let compiled = rules(&["compile", "-"], nops(count).as_bytes());
+        assert_eq!((compiled.status.code(), compiled.stdout), (Some(0), vec![105; count]));
+    }
+    let longer = rules(&["compile", "-"], nops(65_537).as_bytes());
+    assert_eq!(
+        text(&longer.stderr),
+        "-:65538: with this line the code is over 65,536 bytes (18)\n"
+    );
+    assert_eq!((longer.status.code(), longer.stdout), (Some(1), vec![]));
+}
+
+/// Random bytes, up to the first fault.
+fn random_code(seed: u64, length: usize) -> Vec<u8> {
+    let mut state = seed.wrapping_mul(0x9E37_79B9_7F4A_7C15) | 1;
+    let mut next = || {
+        state ^= state << 13;
+        state ^= state >> 7;
+        state ^= state << 17;
+        (state >> 32) as u8
+    };
+    let mut code: Vec<u8> = (0..length).map(|_| next() % 131).collect();
+    let fault = tokenfinch::instructions(&code).find_map(|read| read.err()?.offset());
+    code.truncate(fault.unwrap_or(length));
+    code
+}
+
+#[test]
+fn random_code_is_compiled_back() {
+    for seed in 1..=24 {
+        let code = random_code(seed, 150 * seed as usize);
+        let compiled = rules(&["compile", "-", "--unchecked"], &tokenfinch::listing(&code));
+        assert_eq!(
+            (compiled.status.code(), compiled.stdout),
+            (Some(0), code),
+            "seed {seed}"
+        );
+    }
+}
+
+#[test]
+fn a_refused_line_is_told() {
+    for (lines, said) in [
+        ("0\tPop\t-\t-\n2\tPop\t-\t-\n", ":3: the offset is 1 here, not 2 (25)"),
+        (
+            "123456789012345678901234567890\tPop\t-\t-\n",
+            ":2: the offset is 0 here, not 123456789012345678901234567890 (25)",
+        ),
+        (
+            "0\tJump\t0\t123456789012345678901234567890\n",
+            ":2: the displacement 0 leads to 3, not 123456789012345678901234567890 (25)",
+        ),
+        (
+            "0\tPop\t-\t-\n!\t1\t22\n",
+            ":3: not a line that listing prints: it is the line of a fault, and no instruction (24)",
+        ),
+        (
+            "0\tPop\t-\t-\r\n",
+            ":2: not a line that listing prints: it ends in CR LF, and a line ends in LF alone (24)",
+        ),
+        (
+            "0\tPop\t-\t-",
+            ":2: not a line that listing prints: it is the last and has no LF at its end (24)",
+        ),
+        (
+            "0   Pop   -   -\n",
+            ":2: not a line that listing prints: spaces stand where tabs should (24)",
+        ),
+    ] {
+        assert_eq!(refused(&["--unchecked"], lines), said);
+    }
+    let empty = rules(&["compile", "-"], b"");
+    assert_eq!(empty.status.code(), Some(1));
+    assert_eq!(
+        text(&empty.stderr),
+        "-:1: not a line that listing prints: the text is empty, and a listing begins with its header (24)\n"
+    );
+    for rule in ["cut-short", "keyword-calls"] {
+        let code = fs::read(repository(&format!("examples/{rule}.rule"))).expect("the rule is there");
+        let output = rules(&["compile", "-"], &tokenfinch::listing(&code));
+        assert!(text(&output.stderr).ends_with("it is the line of a fault, and no instruction (24)\n"));
+        assert_eq!((output.status.code(), output.stdout), (Some(1), vec![]));
+    }
+}
+
+#[test]
+fn what_is_compiled_is_checked() {
+    let pop = "0\tPop\t-\t-\n";
+    assert_eq!(
+        refused(&[], pop),
+        ":2: the instruction takes the depth 0 below 0, or above 65,535 (23)"
+    );
+    assert_eq!(
+        refused(&["7:0"], pop),
+        ": the start 7:0 is at no instruction and not at the end, 1 (20)"
+    );
+    let listing = format!("{HEADER}{pop}");
+    for words in [
+        &["compile", "-", "0:1"][..],
+        &["compile", "-", "1:0"],
+        &["compile", "-", "--unchecked"],
+    ] {
+        let output = rules(words, listing.as_bytes());
+        assert_eq!((output.status.code(), output.stdout), (Some(0), vec![0]), "{words:?}");
+    }
+    let broken = fs::read(repository("examples/brake-broken.rule")).expect("the rule is there");
+    let output = rules(&["compile", "-"], &tokenfinch::listing(&broken));
+    assert_eq!(
+        text(&output.stderr),
+        "-:8: two ways meet here with different depths: 1 from line 7 (LoadConst), and 2 from line 6 (Jump) (23)\n"
+    );
+}
+
+#[test]
+fn a_file_is_written_whole_or_not_at_all() {
+    let folder = env::temp_dir().join(format!("tokenfinch-compile-{}", std::process::id()));
+    fs::create_dir_all(&folder).expect("a folder for the files");
+    let [listing, rule] = ["fixed.txt", "fixed.rule"].map(|name| folder.join(name));
+    let [from, to] = [&listing, &rule].map(|path| path.to_str().expect("a plain path"));
+    fs::write(&rule, "old").expect("the old rule is written");
+    let compile = |lines: &str| {
+        fs::write(&listing, format!("{HEADER}{lines}")).expect("the listing is written");
+        rules(&["compile", from, "-o", to], b"")
+    };
+    let refused = compile("1\tNop\t-\t-\n");
+    assert_eq!(
+        text(&refused.stderr),
+        format!("{from}:2: the offset is 0 here, not 1 (25)\n")
+    );
+    assert_eq!(
+        (refused.status.code(), fs::read(&rule).ok()),
+        (Some(1), Some(b"old".to_vec()))
+    );
+    let accepted = compile("0\tNop\t-\t-\n");
+    assert_eq!(
+        (accepted.status.code(), fs::read(&rule).ok()),
+        (Some(0), Some(vec![105]))
+    );
+    assert!(accepted.stdout.is_empty() && accepted.stderr.is_empty());
+    for words in [
+        &["compile", from, "-o", from][..],
+        &["compile", from, "-o", "no-such-folder/rule"],
+    ] {
+        assert_eq!(rules(words, b"").status.code(), Some(2), "{words:?}");
+    }
+    let left = fs::read_dir(&folder).expect("the folder is there").count();
+    assert_eq!(left, 2, "nothing else is left beside the two files");
+    fs::remove_dir_all(&folder).expect("the folder is removed");
+}
+
 /// The listing is a program of its own, which is there once `rt check listing` was run.
 #[test]
 fn listings_come_from_the_proved_program() {
@@ -170,7 +356,10 @@ fn listings_come_from_the_proved_program() {
         let output = rules(&["listing", file.to_str().expect("a plain path")], b"");
         assert_eq!(output.status.code(), Some(status), "{}", text(&output.stderr));
         assert_eq!(text(&output.stdout).lines().last(), Some(last));
-        let piped = rules(&["listing", "-"], &fs::read(file).expect("the rule is there"));
-        assert_eq!(piped.stdout, output.stdout);
+        let code = fs::read(file).expect("the rule is there");
+        assert_eq!(rules(&["listing", "-"], &code).stdout, output.stdout);
+        if status == 0 {
+            assert_eq!(rules(&["compile", "-"], &output.stdout).stdout, code);
+        }
     }
 }

@@ -261,6 +261,22 @@ static void listings(void)
     value("and no other", tf_list(long_code, 65537, (size_t)told[TF_LIST_NEXT], text, 28, told, TF_LIST_CELLS), 0);
 }
 
+/* A listing of two lines, read back and refused in each way. */
+static void readings(void)
+{
+    static const char good[] = "offset\tname\toperands\ttarget\n0\tLoadNone\t-\t-\n1\tReturnValue\t-\t-\n";
+    static const char moved[] = "offset\tname\toperands\ttarget\n0\tLoadNone\t-\t-\n2\tReturnValue\t-\t-\n";
+    const uint8_t *text = (const uint8_t *)good;
+    uint8_t code[3] = {9, 9, 9};
+    value("read back", tf_read_listing(text, sizeof good - 1, code, sizeof code), 2);
+    report("its bytes", code[0] == TF_OP_LOAD_NONE && code[1] == TF_OP_RETURN_VALUE && code[2] == 9);
+    value("the header alone, into nothing", tf_read_listing(text, 28, NULL, 0), 0);
+    naming("no text", tf_read_listing(NULL, 0, code, sizeof code), TF_NOT_A_LINE, 1);
+    naming("no last LF", tf_read_listing(text, sizeof good - 2, code, sizeof code), TF_NOT_A_LINE, 3);
+    naming("an offset", tf_read_listing((const uint8_t *)moved, sizeof moved - 1, code, sizeof code), TF_DISAGREES, 3);
+    naming("no room", tf_read_listing(text, sizeof good - 1, code, 1), TF_FULL, 3);
+}
+
 static void handlers(void)
 {
     /* example H: 2..8 to 20, 0..10 to 30; behind them a part of a row */
@@ -325,6 +341,7 @@ int main(void)
     writing();
     depths();
     listings();
+    readings();
     handlers();
     locations();
     constants_and_names();

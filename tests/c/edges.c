@@ -125,9 +125,41 @@ static void writes(uint8_t opcode, size_t room)
         report("no room for the name", tf_named(answer) == TF_TABLE_TEXT && refused_by(answer, TF_FULL, TF_FULL));
 }
 
+/* A listing of the three kinds of line, of 3 + 2 + 1 bytes, cut to so many bytes of text and read into so much room. */
+static void readings(size_t length, size_t room)
+{
+    static const char listing[] = "offset\tname\toperands\ttarget\n0\tJump\t-3\t0\n3\tLoadSmallInt\t-2\t-\n5\tPop\t-\t-\n";
+    static const uint8_t bytes[] = {TF_OP_JUMP, 0xFD, 0xFF, TF_OP_LOAD_SMALL_INT, 0xFE, TF_OP_POP};
+    static const size_t sizes[] = {0, 3, 5, 6};
+    uint32_t lines = 0;
+    if (length > sizeof listing - 1)
+        length = sizeof listing - 1;
+    for (size_t i = 0; i < length; i++)
+        lines += listing[i] == '\n';
+    lend(LINES, length);
+    if (length > 0)
+        memcpy(lent_at(LINES), listing, length);
+    lend(CODE, room);
+    remember();
+    tf_answer answer = tf_read_listing(LENT(const uint8_t, LINES), LENT(uint8_t, CODE));
+    uint32_t full = 1;
+    while (full < lines && sizes[full] <= room)
+        full++;
+    if (full < lines)
+        report("no room for a line", tf_named(answer) == full + 1 && refused_by(answer, TF_FULL, TF_FULL));
+    else if (length == 0 || listing[length - 1] != '\n')
+        report("a line cut short", tf_named(answer) == lines + 1 && refused_by(answer, TF_NOT_A_LINE, TF_NOT_A_LINE));
+    else
+        report("read back", answer == sizes[lines - 1] && kept(LINES) && blank_from(CODE, (size_t)answer) &&
+                                (answer == 0 || memcmp(lent_at(CODE), bytes, (size_t)answer) == 0));
+}
+
 int main(void)
 {
     raise_fences();
+    for (size_t length = 0; length < 80; length++)
+        for (size_t room = 0; room < 9; room++)
+            readings(length, room);
     for (size_t length = 0; length < MOST; length++) {
         steps(length);
         for (size_t round = 0; round < MOST; round++) {

@@ -2,7 +2,7 @@
 //! same. Both sides do the same work on the same bytes, turn by turn in one process; the ratio is that of the medians.
 //! Buffers are warm: each side has run once before it is timed.
 
-use bench::{building, checker, decode, emission, listing, lookups::Tables, row};
+use bench::{building, checker, decode, emission, listing, lookups::Tables, readback, row};
 use std::{cell::RefCell, env, time::Instant};
 
 /// Two ways to do one piece of work, each answering a number that must agree.
@@ -85,7 +85,21 @@ fn main() {
         };
         measure(&pair, repetitions);
     }
-    emission::measure(repetitions);
+    let names = readback::names();
+    let slice = RefCell::new(vec![0; readback::MOST]);
+    let vector = RefCell::new(Vec::with_capacity(readback::MOST));
+    for work in readback::works() {
+        let pair = Pair {
+            what: work.what,
+            proved: &|| readback::proved(&work.text, &mut slice.borrow_mut()),
+            plain: &|| readback::plain(&names, &work.text, &mut vector.borrow_mut()),
+        };
+        measure(&pair, repetitions);
+    }
     building::measure(repetitions);
-    listing::measure(&decode::code(1 << 16, decode::Mix::Random), repetitions);
+    // The proved programs are there for x86-64 alone.
+    if cfg!(target_arch = "x86_64") {
+        emission::measure(repetitions);
+        listing::measure(&decode::code(1 << 16, decode::Mix::Random), repetitions);
+    }
 }

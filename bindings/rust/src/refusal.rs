@@ -54,6 +54,10 @@ pub enum Refusal {
     CutShort(usize),
     /// 23: no depths can be given to the instructions.
     NoDepths,
+    /// 24: a line that is not formed as `listing` forms one.
+    NotALine,
+    /// 25: a line's offset or target is not the one that results.
+    Disagrees,
     /// A number that this crate does not know, as its archive is newer than it.
     Other(u32),
 }
@@ -141,6 +145,8 @@ impl Refusal {
             21 => Self::ShortDepths,
             22 => Self::CutShort(named as usize),
             23 => Self::NoDepths,
+            24 => Self::NotALine,
+            25 => Self::Disagrees,
             other => Self::Other(other),
         }
     }
@@ -187,6 +193,8 @@ impl Refusal {
             Self::ShortDepths => 21,
             Self::CutShort(_) => 22,
             Self::NoDepths => 23,
+            Self::NotALine => 24,
+            Self::Disagrees => 25,
             Self::Other(number) => number,
         }
     }
@@ -237,6 +245,8 @@ impl Refusal {
             Self::ShortDepths => "fewer depths are lent than bytes of code and one",
             Self::CutShort(_) => "an instruction is cut short by the code's end",
             Self::NoDepths => "no depths can be given",
+            Self::NotALine => "not a line that listing prints",
+            Self::Disagrees => "the offset or the target is not the one that results",
             Self::Other(_) => "the library refuses by a number that this crate does not know",
         }
     }
@@ -256,6 +266,39 @@ impl fmt::Display for Refusal {
 }
 
 impl Error for Refusal {}
+
+/// Why a text was not read: the refusal, and the first bad line.
+#[derive(Debug, Clone, Copy, PartialEq, Eq, Hash)]
+pub struct ReadError {
+    refusal: Refusal,
+    line: usize,
+}
+
+impl ReadError {
+    pub(crate) fn new(refusal: Refusal, line: usize) -> Self {
+        Self { refusal, line }
+    }
+
+    /// What is wrong with the line.
+    #[must_use]
+    pub fn refusal(self) -> Refusal {
+        self.refusal
+    }
+
+    /// The line's number, from 1 on (modulo 2^32, as it crosses).
+    #[must_use]
+    pub fn line(self) -> usize {
+        self.line
+    }
+}
+
+impl fmt::Display for ReadError {
+    fn fmt(&self, f: &mut fmt::Formatter<'_>) -> fmt::Result {
+        write!(f, "line {}: {}", self.line, self.refusal)
+    }
+}
+
+impl Error for ReadError {}
 
 #[cfg(test)]
 mod tests {
@@ -282,5 +325,9 @@ mod tests {
             "refused 18 (marks): there is no room left"
         );
         assert_eq!(Refusal::NoDepths.to_string(), "refused 23: no depths can be given");
+        assert_eq!(
+            ReadError::new(Refusal::NotALine, 7).to_string(),
+            "line 7: refused 24: not a line that listing prints"
+        );
     }
 }

@@ -2,7 +2,7 @@
 //! file has unsafe code: it says to the library how long each slice is, and that is all the library has to be told
 //! truly.
 
-use crate::Refusal;
+use crate::{ReadError, Refusal, Table};
 
 mod c {
     unsafe extern "C" {
@@ -60,6 +60,7 @@ mod c {
             told: *mut u64,
             told_room: usize,
         ) -> u64;
+        pub fn tf_read_listing(text: *const u8, text_len: usize, code: *mut u8, code_len: usize) -> u64;
         pub fn tf_find_in_two(records: *const u32, length: usize, offset: u32, out: *mut u64, room: usize) -> u64;
         pub fn tf_constant(constants: *const u64, length: usize, index: usize, out: *mut u64, room: usize) -> u64;
         pub fn tf_local_name(names: *const u64, length: usize, slot: usize, out: *mut u64, room: usize) -> u64;
@@ -200,6 +201,15 @@ impl Answer {
         self.value().map_err(|refusal| refusal.read_at(self.0 as u32 as usize))
     }
 
+    /// The value of a call that reads a text into code: each of its refusals names a line, 18 too.
+    pub fn read_lines(self) -> Result<u32, ReadError> {
+        let line = self.0 as u32 as usize;
+        self.value().map_err(|refusal| match refusal {
+            Refusal::Full(_) => ReadError::new(Refusal::Full(Table::Code), line),
+            other => ReadError::new(other, line),
+        })
+    }
+
     /// The value in two's complement.
     pub fn signed(self) -> Result<i32, Refusal> {
         self.value().map(u32::cast_signed)
@@ -283,6 +293,10 @@ pub fn list(code: &[u8], from: usize, text: &mut [u8], told: &mut [u64]) -> Answ
             told.len(),
         )
     })
+}
+
+pub fn read_listing(text: &[u8], code: &mut [u8]) -> Answer {
+    Answer(unsafe { c::tf_read_listing(text.as_ptr(), text.len(), code.as_mut_ptr(), code.len()) })
 }
 
 pub fn check_listing(code: &[u8], depths: &[u32], from: usize, text: &mut [u8], told: &mut [u64]) -> Answer {

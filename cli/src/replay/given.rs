@@ -1,6 +1,7 @@
-//! The lines that need no builder: the opcode rules, and the decoder, the checker and a lookup on what the line gives.
+//! The lines that need no builder: the opcode rules, and the decoder, the checker, a lookup and the reading of a listing on
+//! what the line gives.
 
-use tokenfinch::{check_into, lookups, rules, step};
+use tokenfinch::{check_into, lookups, read_listing_into, rules, step};
 
 use super::{
     out::Out,
@@ -9,8 +10,8 @@ use super::{
     words::Words,
 };
 
-/// The most cells of a slice of depths.
-const DEPTHS_MOST: usize = 2_000_000;
+/// The most cells of a slice of depths, or of code that a listing is read into.
+const CELLS_MOST: usize = 2_000_000;
 
 /// The most bytes of `check_zeros`, and which byte they are.
 const ZEROS_MOST: usize = 1_048_600;
@@ -24,6 +25,7 @@ const NO_FLAGS: u8 = 11;
 #[derive(Default)]
 pub struct Given {
     depths: Vec<u32>,
+    code: Vec<u8>,
 }
 
 impl Given {
@@ -42,6 +44,7 @@ impl Given {
                 | b"check"
                 | b"check_slice"
                 | b"check_zeros"
+                | b"read_listing"
         )
     }
 
@@ -54,6 +57,7 @@ impl Given {
             b"check" => self.check(words, out),
             b"check_slice" => self.check_slice(words, out),
             b"check_zeros" => self.check_zeros(words, out),
+            b"read_listing" => self.read_listing(words, out),
             _ => of_byte(name, words, out),
         }
     }
@@ -72,7 +76,7 @@ impl Given {
 
     /// `check_slice CELLS HEX O D ..`
     fn check_slice(&mut self, mut words: Words<'_>, out: &mut Out) -> Option<()> {
-        let cells = words.size(DEPTHS_MOST)?;
+        let cells = words.size(CELLS_MOST)?;
         let code = words.bytes()?;
         let starts: Vec<u32> = words.numbers()?;
         self.check_sum(cells, &code, &starts, out);
@@ -81,9 +85,23 @@ impl Given {
 
     /// `check_zeros N CELLS`
     fn check_zeros(&mut self, mut words: Words<'_>, out: &mut Out) -> Option<()> {
-        let (length, cells) = (words.size(ZEROS_MOST)?, words.size(DEPTHS_MOST)?);
+        let (length, cells) = (words.size(ZEROS_MOST)?, words.size(CELLS_MOST)?);
         words.end()?;
         self.check_sum(cells, &vec![NOP; length], &[], out);
+        Some(())
+    }
+
+    /// `read_listing ROOM HEX`
+    fn read_listing(&mut self, mut words: Words<'_>, out: &mut Out) -> Option<()> {
+        let room = words.size(CELLS_MOST)?;
+        let text = words.bytes()?;
+        words.end()?;
+        fill(&mut self.code, room);
+        match read_listing_into(&text, &mut self.code) {
+            Ok(length) => out.ok().bytes(&self.code[..length]),
+            Err(error) => out.not_read(error),
+        };
+        out.value(sum(&self.code));
         Some(())
     }
 

@@ -144,7 +144,6 @@ mod tests {
             "step table 4 05 0",
             "check strict 05",
             "check table 4 05",
-            "read_listing 9 00",
             "write_file 9",
             "read_file 1 1 1 1 1 1 00",
             "draw 1 1 1 05",
@@ -162,6 +161,42 @@ mod tests {
             "check_here strict",
         ]);
         assert_eq!(told, ["ok", "? 2", "? 3", "? 4", "? 5"]);
+    }
+
+    #[test]
+    fn listings_are_read_back() {
+        let text = |lines: &str| {
+            let text = format!("offset\tname\toperands\ttarget\n{lines}");
+            text.bytes().map(|byte| format!("{byte:02x}")).collect::<String>()
+        };
+        let (none, two) = (text(""), text("0\tLoadNone\t-\t-\n1\tReturnValue\t-\t-\n"));
+        // The sums are of 5 101, of the two cells of room as they were, 3 10, and of three: 5 101 17, 3 10 17.
+        let told = told([
+            &format!("read_listing 0 {none}"),
+            &format!("read_listing 2 {two}"),
+            &format!("read_listing 3 {two}"),
+            &format!("read_listing 1 {two}"),
+            "read_listing 0 -",
+            &format!("read_listing 3 {two}0a"),
+            &format!("read_listing 2 {}", text("0\tLoadNone\t-\t-\n2\tReturnValue\t-\t-\n")),
+            &format!("read_listing 2000000 {none}"),
+        ]);
+        assert_eq!(
+            told[..7],
+            [
+                "ok - 0",
+                "ok 0565 1386",
+                "ok 0565 356219",
+                "refused 18 3 code 3",
+                "refused 24 1 0",
+                "refused 24 4 200734",
+                "refused 25 3 781",
+            ]
+        );
+        assert!(told[7].starts_with("ok - "));
+        for words in ["", " 1", " 1 ", " 2000001 -", " 1 - 1", " 1 0", " -1 -", " 1 0A"] {
+            assert_eq!(answers(format!("read_listing{words}").as_bytes()), "? 1\n", "{words}");
+        }
     }
 
     #[test]

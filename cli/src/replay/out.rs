@@ -5,7 +5,9 @@ use std::{
     io::{self, Write},
 };
 
-use tokenfinch::Refusal;
+use tokenfinch::{ReadError, Refusal};
+
+const DIGITS: &[u8; 16] = b"0123456789abcdef";
 
 /// What is answered and not yet written out.
 #[derive(Default)]
@@ -42,6 +44,27 @@ impl Out {
     pub fn values<T: Display>(&mut self, values: impl IntoIterator<Item = T>) -> &mut Self {
         for value in values {
             self.value(value);
+        }
+        self
+    }
+
+    /// Bytes in hexadecimal, or `-` for none.
+    pub fn bytes(&mut self, bytes: &[u8]) -> &mut Self {
+        if bytes.is_empty() {
+            return self.value("-");
+        }
+        self.0.push(b' ');
+        let digits = |byte: &u8| [DIGITS[usize::from(byte >> 4)], DIGITS[usize::from(byte & 15)]];
+        self.0.extend(bytes.iter().flat_map(digits));
+        self
+    }
+
+    /// `refused` of a text: its number, the line and, for 18, the table.
+    pub fn not_read(&mut self, error: ReadError) -> &mut Self {
+        self.0.extend_from_slice(b"refused");
+        self.value(error.refusal().number()).value(error.line());
+        if let Some(table) = error.refusal().full_table() {
+            self.value(table);
         }
         self
     }

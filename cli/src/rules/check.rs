@@ -10,25 +10,13 @@ use std::{
 
 use tokenfinch::{Refusal, check};
 
-use super::{Outcome, paths, read, said};
+use super::{Outcome, Trouble, paths, read, said};
 
 /// The most bytes of a rule.
 const CODE_MOST: u64 = 1_048_576;
 
 pub fn run(file: &OsStr, starts: &[OsString]) -> Outcome {
-    let starts = if starts.is_empty() {
-        vec![0, 0]
-    } else {
-        let read: Option<Vec<[u32; 2]>> = starts.iter().map(|word| start(word)).collect();
-        let wrong = || starts.iter().find(|word| start(word).is_none());
-        read.ok_or_else(|| {
-            said(format!(
-                "no start OFFSET:DEPTH: {}",
-                wrong().map_or("".into(), |w| w.to_string_lossy())
-            ))
-        })?
-        .concat()
-    };
+    let starts = self::starts(&starts.iter().collect::<Vec<_>>())?;
     // One byte more than a rule may have tells that it has too many, without reading on.
     let code = read(file, CODE_MOST + 1)?;
     let mut out = BufWriter::new(io::stdout().lock());
@@ -47,6 +35,16 @@ pub fn run(file: &OsStr, starts: &[OsString]) -> Outcome {
     Ok(accepted)
 }
 
+/// The starts that words give; 0:0 where there are none.
+pub fn starts(words: &[&OsString]) -> Result<Vec<u32>, Trouble> {
+    if words.is_empty() {
+        return Ok(vec![0, 0]);
+    }
+    let read = |word: &&OsString| start(word).ok_or_else(|| said(format!("no start OFFSET:DEPTH: {}", word.display())));
+    let pairs: Result<Vec<[u32; 2]>, Trouble> = words.iter().map(read).collect();
+    Ok(pairs?.concat())
+}
+
 /// A start: two numbers of digits alone.
 fn start(word: &OsStr) -> Option<[u32; 2]> {
     let number = |text: &str| {
@@ -59,7 +57,7 @@ fn start(word: &OsStr) -> Option<[u32; 2]> {
 }
 
 /// Says each second that the work goes on: its time can grow with the square of the code's length.
-fn with_patience<T>(work: impl FnOnce() -> T) -> T {
+pub fn with_patience<T>(work: impl FnOnce() -> T) -> T {
     thread::scope(|scope| {
         let (done, waiting) = mpsc::channel::<()>();
         scope.spawn(move || {

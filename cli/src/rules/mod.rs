@@ -2,7 +2,10 @@
 //! a file are no good, with one line on standard error.
 
 mod check;
+mod compile;
 mod listing;
+mod meeting;
+mod misread;
 mod opcodes;
 mod paths;
 
@@ -72,6 +75,7 @@ fn command(words: &[OsString]) -> Outcome {
         ("check", []) => Err(said(
             "check takes a file, or - for standard input, and starts OFFSET:DEPTH",
         )),
+        ("compile", words) => compile::run(words),
         ("opcodes", []) => opcodes::run(&mut io::stdout().lock()),
         ("replay", []) => match replay::run(io::stdin().lock(), io::stdout().lock()) {
             Ok(()) => Ok(true),

@@ -5,4 +5,5 @@ pub mod Steps
 pub mod Tables
 pub mod Checks
 pub mod Listings
+pub mod Typed
 pub mod Pairs

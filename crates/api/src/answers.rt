@@ -1,18 +1,21 @@
 // Answers as numbers.
 ghost use mathlib.Core.Path.{_≡_};
-ghost use Prim.Native.Nat.{_≤_};
+ghost use Prim.Native.Nat.{_≤_, _%_};
 ghost use lib.ListN.{length};
 ghost use Rattle.op.specs.Effects.{netOf, Small};
+ghost use Rattle.op.specs.Refusals.{half};
 ghost use Rattle.op.specs.declared.AssertFlags.the-variants.{Valid};
 ghost use Rattle.code.specs.Bytes.{front};
 ghost use Rattle.api.specs.Answers.{refused, netAnswer, depthAnswer};
 ghost use Rattle.api.specs.Checks.{checkAnswer};
 ghost use Rattle.api.specs.Given.{flagsAnswer};
+ghost use Rattle.api.specs.Typed.{readAnswer};
 use checker::Checked;
 use op::After;
 use op::Compared;
 use op::Effect;
 use op::Refusal;
+use readback::Readback;
 
 // A refusal's answer.
 pub fn refused(refusal: Refusal) -> u64
@@ -49,6 +52,25 @@ pub fn of_checked(checked: Checked) -> u64
     match checked {
         Checked::Accepted(count) => count as u64,
         Checked::Refused(refusal) => refused(refusal),
+    }
+}
+
+// A number's lower half.
+fn low(n: usize) -> u64
+    ensures { λ r. ⌜ r ≡ n % half ⌝ }
+{
+    n as u64 % 0x1_0000_0000
+}
+
+// The answer of reading a listing: where it is refused, the line stands below the number.
+pub fn of_readback(readback: Readback) -> u64
+    ensures { λ r. ⌜ r ≡ readAnswer readback ⌝ }
+{
+    match readback {
+        Readback::Read(size) => size as u64,
+        Readback::Refused { refusal, line } => {
+            op::refusals::number(refusal) as u64 * 0x1_0000_0000 + low(line)
+        }
     }
 }
 

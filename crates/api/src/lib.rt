@@ -19,6 +19,7 @@ ghost use Rattle.text.specs.Lines.{plainLines, ListsChecked};
 ghost use Rattle.api.specs.Listings.{ListingTold};
 ghost use Rattle.api.specs.Pairs.{twoTold};
 ghost use Rattle.api.specs.Told.{Tells};
+ghost use Rattle.api.specs.Typed.{ReadsTold};
 ghost use Rattle.api.specs.Steps.{stepTold, WritesGiven};
 ghost use Rattle.api.specs.Tables.{locatedTold, handledTold, constantTold, nameTold};
 use code::CODE_LIMIT;
@@ -336,4 +337,12 @@ pub extern "C" fn tf_local_name(names: &[u64], slot: usize, out: &mut [u64]) -> 
         LocalName::Name(number) => cells::tell(&[number as u64], out),
         LocalName::Absent => 0,
     }
+}
+
+#[no_mangle]
+pub extern "C" fn tf_read_listing(text: &[u8], code: &mut [u8]) -> u64
+    ensures { λ r. ⌜ ReadsTold (now (text .entry)) (now (code .entry)) r (now (code .exit)) ⌝ }
+{
+    let read = readback::read_listing(text, code);
+    answers::of_readback(read)
 }

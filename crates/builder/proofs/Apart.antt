@@ -33,7 +33,8 @@ refusals named =
     R.NoDepths ∷ R.UnknownOpcode ∷ R.WrongShape ∷ R.NotAJump ∷ R.DepthBelowZero ∷ R.DepthTooLarge ∷ R.JumpTooFar ∷
     R.TooManyKeywords ∷ R.NameTooLarge ∷ R.TooManyConstants ∷ R.TooLarge ∷ R.DepthsDiffer ∷ R.DeadTarget ∷
     R.NoSuchMark ∷ R.AlreadyPatched ∷ R.RegionWhileLive ∷ R.NamesHeld ∷ R.OpenLabel ∷
-    R.Full (getD tables named T.Code) ∷ R.Unsound ∷ R.BadStarts ∷ R.ShortDepths ∷ R.NoDepths ∷ R.NoDepths ∷ []
+    R.Full (getD tables named T.Code) ∷ R.Unsound ∷ R.BadStarts ∷ R.ShortDepths ∷ R.NoDepths ∷ R.NoDepths ∷
+    R.NotALine ∷ R.Disagrees ∷ []
 
 abbrev back : ℕ → ℕ → Refusal
 back number named = getD (refusals named) number R.NoDepths
@@ -73,6 +74,8 @@ refusal-back R.BadStarts h = refl
 refusal-back R.ShortDepths h = refl
 refusal-back (R.CutShort offset) h = absurd (h offset .1 refl)
 refusal-back R.NoDepths h = refl
+refusal-back R.NotALine h = refl
+refusal-back R.Disagrees h = refl
 
 refusals-apart : (r s : Refusal) → RefusalExact r → RefusalExact s → refusalTold r ≡ refusalTold s → r ≡ s
 refusals-apart r s hr hs e =

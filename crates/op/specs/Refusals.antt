@@ -32,6 +32,8 @@ numberOf R.BadStarts = 20
 numberOf R.ShortDepths = 21
 numberOf (R.CutShort offset) = 22
 numberOf R.NoDepths = 23
+numberOf R.NotALine = 24
+numberOf R.Disagrees = 25
 
 -- the tables by number (R62)
 abbrev pub tableNumber : Table → ℕ
@@ -74,6 +76,8 @@ namedOf R.BadStarts = 0
 namedOf R.ShortDepths = 0
 namedOf (R.CutShort offset) = offset % half
 namedOf R.NoDepths = 0
+namedOf R.NotALine = 0
+namedOf R.Disagrees = 0
 
 -- a refusal as one answer: its number, and below it what it names (R62)
 abbrev pub answerOf : Refusal → ℕ

@@ -73,6 +73,10 @@ pub enum Refusal {
     CutShort(usize),
     // 23: no assignment of depths exists
     NoDepths,
+    // 24: a line not formed as a listing forms one
+    NotALine,
+    // 25: an offset or a target that disagrees with what results
+    Disagrees,
 }
 
 // The layout of an opcode's operand bytes.

@@ -34,6 +34,8 @@ pub fn number(refusal: Refusal) -> u8
         Refusal::ShortDepths => 21,
         Refusal::CutShort(_) => 22,
         Refusal::NoDepths => 23,
+        Refusal::NotALine => 24,
+        Refusal::Disagrees => 25,
     }
 }
 
@@ -89,6 +91,8 @@ pub fn named(refusal: Refusal) -> u32
         Refusal::ShortDepths => 0,
         Refusal::CutShort(offset) => low(offset),
         Refusal::NoDepths => 0,
+        Refusal::NotALine => 0,
+        Refusal::Disagrees => 0,
     }
 }
 

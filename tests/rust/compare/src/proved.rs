@@ -30,6 +30,7 @@ mod c {
             names: *const u16,
             count: usize,
         ) -> u64;
+        pub unsafe fn tf_read_listing(text: *const u8, text_len: usize, code: *mut u8, code_len: usize) -> u64;
         pub unsafe fn tf_location_for_offset(
             rows: *const u32,
             length: usize,
@@ -71,6 +72,11 @@ impl Answer {
     /// A refusal and what it names: an offset, or the number of a table.
     pub fn naming(number: u32, named: u32) -> Self {
         Self(u64::from(number) << 32 | u64::from(named))
+    }
+
+    /// The refusal's number; 0 where it is none.
+    pub fn refusal(self) -> u32 {
+        (self.0 >> 32) as u32
     }
 
     /// 18 for a lent text or lent cells.
@@ -160,6 +166,11 @@ pub fn write(out: &mut [u8], opcode: u8, shape: u8, fields: Fields, names: &[u16
             names.len(),
         )
     })
+}
+
+pub fn read_listing(text: &[u8], code: &mut [u8]) -> Answer {
+    // SAFETY: both slices are as long as is said.
+    Answer(unsafe { c::tf_read_listing(text.as_ptr(), text.len(), code.as_mut_ptr(), code.len()) })
 }
 
 pub fn location_for_offset(rows: &[u32], offset: usize, out: &mut [u64]) -> Answer {

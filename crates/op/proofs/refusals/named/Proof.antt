@@ -87,6 +87,12 @@ low-requires-2 c κs = search needs
 enum-told-21 : tie.Need-enum-told-21
 enum-told-21 c = search needs
 
+enum-told-22 : tie.Need-enum-told-22
+enum-told-22 c = search needs
+
+enum-told-23 : tie.Need-enum-told-23
+enum-told-23 c = search needs
+
 returns : tie.Need-returns
 returns c = sym (ap namedOf (c .enum-told .given .1))
 
@@ -159,6 +165,12 @@ returns-23 c = c .low2 .ensures ∙ sym (ap namedOf (c .before .before .refusal3
 returns-24 : tie.Need-returns-24
 returns-24 c = sym (ap namedOf (c .enum-told21 .given .1))
 
+returns-25 : tie.Need-returns-25
+returns-25 c = sym (ap namedOf (c .enum-told22 .given .1))
+
+returns-26 : tie.Need-returns-26
+returns-26 c = sym (ap namedOf (c .enum-told23 .given .1))
+
 pub named-spec : {M : Type 1} → statement M
 named-spec =
     tie.close
@@ -190,6 +202,8 @@ named-spec =
     enum-known-refusal-3
     low-requires-2
     enum-told-21
+    enum-told-22
+    enum-told-23
     returns
     returns-2
     returns-3
@@ -213,4 +227,6 @@ named-spec =
     returns-21
     returns-22
     returns-23
-    returns-24)
+    returns-24
+    returns-25
+    returns-26)

@@ -60,7 +60,7 @@ impl Run {
 }
 
 /// The whole listing of some bytes.
-fn listing(decoder: &Decoder, code: &[u8]) -> String {
+pub(super) fn listing(decoder: &Decoder, code: &[u8]) -> String {
     if code.len() > MOST {
         return "!\t0\t10\n".to_owned();
     }
@@ -157,7 +157,7 @@ fn count_of_names_at(opcode: u8) -> Option<usize> {
 }
 
 /// An opcode with all operand bytes alike, whole; a keyword call with no names.
-fn edged(decoder: &Decoder, opcode: u8, edge: u8) -> Vec<u8> {
+pub(super) fn edged(decoder: &Decoder, opcode: u8, edge: u8) -> Vec<u8> {
     let mut bytes = vec![edge; 520];
     bytes[0] = opcode;
     if let Some(place) = count_of_names_at(opcode) {
@@ -176,7 +176,7 @@ fn random(random: &mut Random, length: usize) -> Vec<u8> {
 }
 
 /// Whole random instructions, no more than so many bytes.
-fn whole(decoder: &Decoder, random: &mut Random, most: usize) -> Vec<u8> {
+pub(super) fn whole(decoder: &Decoder, random: &mut Random, most: usize) -> Vec<u8> {
     let mut code = Vec::new();
     loop {
         let mut bytes: Vec<u8> = (0..16).map(|_| random.u8()).collect();

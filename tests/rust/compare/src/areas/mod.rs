@@ -17,6 +17,7 @@ mod listing;
 mod lookups;
 mod moved;
 mod name;
+mod read_back;
 mod shape;
 mod size;
 mod taken;
@@ -26,7 +27,7 @@ use crate::{Plan, original, tally::Tally};
 
 pub type Area = fn(&mut Tally, &mut Plan);
 
-pub const ALL: [(&str, Area); 19] = [
+pub const ALL: [(&str, Area); 20] = [
     ("shape", shape::run),
     ("effect", effect::run),
     ("taken", taken::run),
@@ -46,6 +47,7 @@ pub const ALL: [(&str, Area); 19] = [
     ("checker", checks::run),
     ("left behind", left::run),
     ("moved", moved::run),
+    ("read back", read_back::run),
 ];
 
 /// An opcode for a printed case: its number, and its name where it has one.

@@ -158,6 +158,19 @@ pub fn records(random: &mut Random, lines: usize) -> Script {
     script
 }
 
+/// A listing of up to two instructions, good or not, in hexadecimal.
+fn listing(random: &mut Random) -> String {
+    let lines = ["0\tPop\t-\t-\n", "1\tPop\t-\t-\n", "0\tJump\t-3\t0\n", "0\tpop\t-\t-\n"];
+    let mut line = || lines[random.below(lines.len())];
+    let text = ["offset\tname\toperands\ttarget\n", line(), line()].concat();
+    let length = if random.below(2) == 0 {
+        text.len()
+    } else {
+        1 + random.below(text.len())
+    };
+    text[..length].bytes().map(|byte| format!("{byte:02x}")).collect()
+}
+
 /// Lines on bytes, with numbers at the edges of what they take.
 fn given(random: &mut Random) -> String {
     let hex: String = (0..random.below(12))
@@ -165,7 +178,7 @@ fn given(random: &mut Random) -> String {
         .collect();
     let hex = if hex.is_empty() { "-".to_owned() } else { hex };
     let (a, b) = (random.below(5), random.below(3));
-    match random.below(9) {
+    match random.below(10) {
         0 => format!("step {hex} {a}"),
         1 => format!("check {hex} {a} {b}"),
         2 => format!("check {hex} 0 0 {a}"),
@@ -184,6 +197,7 @@ fn given(random: &mut Random) -> String {
             number(random, 16)
         ),
         7 => format!("cells {} {a} {}", TABLES[random.below(7)], a + random.below(9)),
+        8 => format!("read_listing {b} {}", listing(random)),
         _ => {
             let first = format!("{a} {} 30 1 2 0", number(random, 32));
             format!(

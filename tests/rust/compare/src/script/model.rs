@@ -11,6 +11,7 @@ use crate::{
     reference::{
         self, Decoder, Step,
         depths::{Depths, makes_dead},
+        listed::Reader,
     },
 };
 
@@ -147,6 +148,7 @@ impl Model {
             | "decode_assert_flags"
             | "step" => self.alone(call),
             "check" | "check_slice" | "check_zeros" => return Some(self.check_given(call)),
+            "read_listing" => return Some(self.read_listing(&call.bytes, filled(call.numbers[0] as usize))),
             _ if !self.built => return None,
             "check_here" => return self.check_here(),
             "tamper" | "tamper depth" | "poke" | "counts" | "cells" | "sum" => self.look(call)?,
@@ -668,6 +670,19 @@ impl Model {
                 Ok(format!(" {} {}{texts}", cells[0], cells[1]))
             }
         }
+    }
+
+    fn read_listing(&self, text: &[u8], mut slice: Vec<u64>) -> String {
+        let answer = match Reader::new(&self.decoder).read(text, slice.len()) {
+            Ok(code) => {
+                slice.splice(..code.len(), code.iter().map(|&byte| byte.into()));
+                let digits: String = code.iter().map(|byte| format!("{byte:02x}")).collect();
+                format!("ok {}", if digits.is_empty() { "-" } else { &digits })
+            }
+            Err((18, line)) => format!("refused 18 {line} code"),
+            Err((number, line)) => format!("refused {number} {line}"),
+        };
+        format!("{answer} {}", sum(slice))
     }
 
     // The depth checker.

@@ -34,13 +34,13 @@ pub const TABLES: [&str; 7] = [
 /// The most cells of each table.
 const CELLS_MOST: [i128; 7] = [1_048_640, 65_600, 65_600, 65_600, 65_600, 65_600, 65_600];
 
-/// The most cells of a slice of depths.
+/// The most cells of a slice of depths, or of code that a listing is read into.
 const DEPTHS_MOST: i128 = 2_000_000;
 
 /// Each call with the kinds of its words: b u8, h u16, w u32, q u64, i i8, k 0 or 1, t `dead` or u64, d `dead` or u16,
 /// f `none` or 0 to 9, T a table, x bytes, n u16 names to the end, m u32 names to the end, p u32 numbers to the end,
 /// c cells of a slice, z bytes of 105.
-const CALLS: [(&str, &str); 57] = [
+const CALLS: [(&str, &str); 58] = [
     ("set_location", "ww"),
     ("set_location", "wwww"),
     ("emit", "b"),
@@ -94,6 +94,7 @@ const CALLS: [(&str, &str); 57] = [
     ("check_slice", "cxp"),
     ("check_zeros", "zc"),
     ("check_here", ""),
+    ("read_listing", "cx"),
     // The rest is read by more than the kinds of its words.
     ("tamper depth", "d"),
     ("new dead", "0123456"),

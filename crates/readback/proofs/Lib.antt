@@ -1,0 +1,15 @@
+pub mod Saying
+pub mod Judging
+pub mod Inverse
+pub mod Cutting
+pub mod Slots
+pub mod Speaking
+pub mod Sayable
+pub mod Columns
+pub mod Places
+pub mod Telling
+pub mod Lining
+pub mod Turns
+pub mod Header
+pub mod Storing
+pub mod Examples
