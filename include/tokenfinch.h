@@ -57,7 +57,7 @@ enum {
     TF_FULL = 18,               /* too little room where the answer is to be written, or in a table; names which */
     TF_UNSOUND = 19,            /* no builder: a state that is none, or one that its tables are too short for */
     TF_BAD_STARTS = 20,         /* an odd number, a depth over 65,535, or an offset that is no place in the code */
-    TF_SHORT_DEPTHS = 21,       /* fewer depths than bytes of code and one */
+    TF_SHORT_DEPTHS = 21,       /* fewer depths than bytes of code and one, or fewer elements to work in */
     TF_CUT_SHORT = 22,          /* an instruction is cut short by the code's end */
     TF_NO_DEPTHS = 23,          /* no depths can be given to the instructions */
     TF_NOT_A_LINE = 24,         /* a line that no listing without fault has there; names the line */
@@ -190,7 +190,8 @@ uint8_t tf_decode_assert_flags(uint8_t flags);
  * order, those of 16 bits with the low byte first. A keyword call ends with its names, 2 bytes each.
  *
  * Lent arrays come with their number of elements, and a pointer may be null where that is 0. A function
- * writes only what is said, and only where it answers 1 (or a size); no other element ever changes.
+ * writes only what is said, and but for tf_check and tf_explain only where it answers 1 (or a size); no other element
+ * ever changes.
  */
 
 /* What tf_step writes, by its place in out. a, b, c and names are what tf_stack_effect takes, and a, b, c
@@ -234,13 +235,50 @@ tf_answer tf_write(uint8_t *out, size_t room, uint8_t opcode, uint8_t shape, uin
 enum { TF_NO_DEPTH = 65536 };
 
 /* Whether a depth of the stack can be given to each instruction of length bytes of code that the starts lead to,
- * so that all paths meet with the same depth. starts has start_cells numbers: the offset of a start, its depth, and so on. Value:
- * how many instructions have a depth. The first length + 1 elements of depths, which has room elements, then hold the
- * depth before the instruction at each offset, the last of them the depth at the code's end, and TF_NO_DEPTH elsewhere; on 23 they
- * all hold TF_NO_DEPTH. Any other refusal writes nothing, and no later element is ever written.
- * Refuses, in this order: 10, 21, 1 or 22 with the offset, 20, 23. */
+ * so that all paths meet with the same depth. starts has start_cells numbers: the offset of a start, its depth, and so
+ * on. Two arrays of at least length + 1 elements each are lent: depths, which has room elements, and work, which has
+ * work_cells. What they hold does not matter. The time is in proportion to the length of the code and of the starts
+ * (measured, not proved).
+ *
+ * Value: how many instructions have a depth. The first length + 1 elements of depths then hold the depth before the
+ * instruction at each offset, the last of them the depth at the code's end, and TF_NO_DEPTH elsewhere; on 23 they all
+ * hold TF_NO_DEPTH, and any other refusal writes nothing there. The first length + 1 elements of work are used by the
+ * check and end as 0, accepted or refused; 10 and 21 alone leave them as they were. No later element of the two is ever
+ * written.
+ * Refuses, in this order: 10; 21 where depths or work has fewer than length + 1 elements; 1 or 22 with the offset; 20;
+ * 23. */
 tf_answer tf_check(const uint8_t *code, size_t length, const uint32_t *starts, size_t start_cells, uint32_t *depths,
-                   size_t room);
+                   size_t room, uint32_t *work, size_t work_cells);
+
+/* What tf_explain writes, by its place in told. */
+enum {
+    TF_REASON_KIND = 0,        /* one of the kinds below */
+    TF_REASON_OFFSET = 1,      /* of the place, or of the instruction */
+    TF_REASON_DEPTH = 2,       /* a depth that a path from a start brings there */
+    TF_REASON_OTHER_DEPTH = 3, /* another, for TF_REASON_TWO_DEPTHS; else 0 */
+    TF_REASON_CELLS = 4
+};
+
+/* The kinds of reasons. */
+enum {
+    TF_REASON_TWO_DEPTHS = 1,         /* paths bring two depths to the place */
+    TF_REASON_NET_OUT_OF_RANGE = 2,   /* the depth behind the instruction would not be 0 to 65,535 */
+    TF_REASON_TAKEN_OUT_OF_RANGE = 3, /* the depth that the taken jump arrives with would not be */
+    TF_REASON_NO_PLACE = 4            /* the jump's target is no instruction's start and not the code's end */
+};
+
+/* Checks as tf_check does, with the same answer and the same elements of depths and work. On 23 a reason why no depths
+ * can be given is written to the first TF_REASON_CELLS elements of told, which has told_room elements; which of several
+ * is not promised. Otherwise told stays as it was, and no later element of it is ever written.
+ * Refuses: 18 first of all where told has fewer than TF_REASON_CELLS elements, and then nothing is written; else as
+ * tf_check.
+ *
+ *     uint64_t told[TF_REASON_CELLS];
+ *     tf_answer a = tf_explain(code, length, starts, 2, depths, length + 1, work, length + 1, told, TF_REASON_CELLS);
+ *     if (tf_refusal(a) == TF_NO_DEPTHS) printf("see offset %u\n", (unsigned)told[TF_REASON_OFFSET]);
+ */
+tf_answer tf_explain(const uint8_t *code, size_t length, const uint32_t *starts, size_t start_cells, uint32_t *depths,
+                     size_t room, uint32_t *work, size_t work_cells, uint64_t *told, size_t told_room);
 
 /* ---- Listings
  *

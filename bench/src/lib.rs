@@ -1,6 +1,7 @@
 //! What the measuring programs share: code to work on, and plain Rust that does the proved library's work.
 
 pub mod building;
+pub mod checked;
 pub mod checker;
 pub mod decode;
 pub mod emission;

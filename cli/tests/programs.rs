@@ -2,10 +2,11 @@
 
 use std::{
     env, fs,
-    io::Write as _,
+    io::{BufRead as _, BufReader, Write as _},
     path::{Path, PathBuf},
-    process::{Command, Output, Stdio},
+    process::{Child, Command, Output, Stdio},
     thread,
+    time::Duration,
 };
 
 /// A file of the repository.
@@ -68,12 +69,7 @@ fn the_stored_script_has_its_stored_answers() {
 
 #[test]
 fn checks_of_the_examples() {
-    for (rule, status) in [
-        ("nine-bytes", 0),
-        ("brake", 0),
-        ("keyword-calls", 1),
-        ("brake-broken", 1),
-    ] {
+    for (rule, status) in [("nine-bytes", 0), ("brake", 0), ("keyword-calls", 1)] {
         let file = repository(&format!("examples/{rule}.rule"));
         let wanted = fs::read(repository(&format!("tests/c/expected/check-{rule}.txt"))).expect("it is stored");
         let output = rules(&["check", file.to_str().expect("a plain path"), "0:0"], b"");
@@ -83,6 +79,85 @@ fn checks_of_the_examples() {
         let code = fs::read(file).expect("the rule is there");
         assert_eq!(rules(&["check", "-"], &code).stdout, wanted);
     }
+}
+
+#[test]
+fn why_there_are_no_depths() {
+    let broken = fs::read(repository("examples/brake-broken.rule")).expect("the rule is there");
+    for (code, starts, said) in [
+        (
+            &broken[..],
+            "0:0",
+            "23 at offset 14: two ways meet here with different depths: 1 from offset 11 (LoadConst), and 2 from offset 8 (Jump)",
+        ),
+        (
+            &[5, 0, 23],
+            "0:0",
+            "23 at offset 2: BinaryAdd needs at least 1 value on the stack; it has none here",
+        ),
+        (
+            &[5],
+            "0:65535",
+            "23 at offset 0: LoadNone adds 1 value to the stack; it has 65535 here, and 65,535 is the most",
+        ),
+        (
+            &[88, 9, 0],
+            "0:0",
+            "23 at offset 0: Jump leads to 12, where no instruction starts",
+        ),
+        (
+            &[5],
+            "7:0",
+            "20: the start 7:0 is at no instruction and not at the end, 1",
+        ),
+    ] {
+        let output = rules(&["check", "-", starts], code);
+        assert_eq!(text(&output.stdout), format!("refused {said}\n"));
+        assert_eq!((output.status.code(), output.stderr), (Some(1), vec![]));
+    }
+}
+
+/// A program that goes on until it is ended, which a failing test does too.
+struct Watching(Child);
+
+impl Drop for Watching {
+    fn drop(&mut self) {
+        let _ = self.0.kill();
+        let _ = self.0.wait();
+    }
+}
+
+#[test]
+fn a_file_is_checked_again_when_it_changes() {
+    let file = env::temp_dir().join(format!("tokenfinch-watch-{}", std::process::id()));
+    fs::write(&file, [5, 101]).expect("the rule is written");
+    let mut child = command(env!("CARGO_BIN_EXE_rules"))
+        .args(["check", "--watch", file.to_str().expect("a plain path"), "0:0"])
+        .stdout(Stdio::piped())
+        .spawn()
+        .expect("the program starts");
+    let mut lines = BufReader::new(child.stdout.take().expect("its output is a pipe")).lines();
+    let watching = Watching(child);
+    let mut next = || {
+        let line = lines.next().expect("a line comes").expect("it is text");
+        let (verdict, time) = line.rsplit_once(" (").expect("the time stands last");
+        let time = time.strip_suffix(" ms)").expect("in milliseconds");
+        assert!(time.parse::<f64>().is_ok(), "{time}");
+        verdict.to_owned()
+    };
+    assert_eq!(next(), "accepted, 2 instructions with a depth");
+    fs::write(&file, [5, 0, 0]).expect("the rule is changed");
+    assert_eq!(
+        next(),
+        "refused 23 at offset 2: Pop needs at least 1 value on the stack; it has none here"
+    );
+    // As an editor does that puts a new file in the old one's place.
+    fs::remove_file(&file).expect("the rule is removed");
+    thread::sleep(Duration::from_millis(250));
+    fs::write(&file, [5, 0, 5, 0]).expect("the rule is there again");
+    assert_eq!(next(), "accepted, 4 instructions with a depth");
+    drop(watching);
+    fs::remove_file(&file).expect("the rule is removed");
 }
 
 #[test]
@@ -135,6 +210,10 @@ fn what_is_no_good_is_one_line_and_status_2() {
         &["check", folder],
         &["check", "-", "0"],
         &["check", "-", "0:0", "x:y"],
+        &["check", "--watch"],
+        &["check", "--watch", "-"],
+        &["check", "--watch", "no-such-file"],
+        &["check", "--watch", folder],
         &["compile"],
         &["compile", "no-such-file"],
         &["compile", folder],
@@ -284,7 +363,7 @@ fn what_is_compiled_is_checked() {
     let pop = "0\tPop\t-\t-\n";
     assert_eq!(
         refused(&[], pop),
-        ":2: the instruction takes the depth 0 below 0, or above 65,535 (23)"
+        ":2: Pop needs at least 1 value on the stack; it has none here (23)"
     );
     assert_eq!(
         refused(&["7:0"], pop),

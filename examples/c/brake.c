@@ -55,7 +55,7 @@ static void print_listing(const uint8_t *code, size_t length, const uint32_t *de
 int main(void)
 {
     uint8_t code[32];
-    uint32_t marks[2 * TF_MARK_CELLS], starts[TF_START_CELLS], depths[COUNT(code) + 1];
+    uint32_t marks[2 * TF_MARK_CELLS], starts[TF_START_CELLS], depths[COUNT(code) + 1], work[COUNT(code) + 1];
     uint64_t constants[2];
     tf_builder b = {
         .code = code, .code_length = COUNT(code),
@@ -66,7 +66,8 @@ int main(void)
 
     tf_answer built = build_brake(&b, 0);
     size_t length = tf_current_offset(&b);
-    tf_answer checked = tf_check(code, length, starts, (size_t)b.state.starts * TF_START_CELLS, depths, COUNT(depths));
+    tf_answer checked = tf_check(code, length, starts, (size_t)b.state.starts * TF_START_CELLS, depths, COUNT(depths),
+                                 work, COUNT(work));
     if (built != 0 || tf_refusal(checked) != 0) {
         printf("brake: refused by %u\n", (unsigned)tf_refusal(built != 0 ? built : checked));
         return 1;

@@ -3,24 +3,11 @@
  *
  * Usage: check FILE [OFFSET:DEPTH ..]        (`-` reads standard input; without starts: 0:0)
  * Exit status: 0 where depths can be given, 1 where the code is refused, 2 where the words or the file are no good. */
-#define _POSIX_C_SOURCE 200809L
 #include "parts.h"
 
 #include <ctype.h>
 #include <errno.h>
-#include <signal.h>
 #include <string.h>
-#include <unistd.h>
-
-/* Says each second that the check goes on: the time can grow with the square of the code's length. */
-static void still_at_work(int signal)
-{
-    static const char text[] = "check: still at work ..\n";
-    (void)signal;
-    if (write(STDERR_FILENO, text, sizeof text - 1) < 0)
-        return;
-    alarm(1);
-}
 
 /* A number of digits alone up to the character `end`, at most `most`; the text behind that character, or null. */
 static const char *read_number(const char *text, char end, uint32_t *number)
@@ -46,8 +33,11 @@ static const char *in_words(uint32_t refusal)
     }
 }
 
-static long target(size_t at, const uint64_t cell[TF_STEP_CELLS])
+/* Where the jump at an offset leads. */
+static long target(const uint8_t *code, size_t length, size_t at)
 {
+    uint64_t cell[TF_STEP_CELLS] = {0};
+    tf_step(code, length, at, cell, TF_STEP_CELLS);
     return (long)at + 3 + (cell[TF_STEP_A] < 32768 ? (long)cell[TF_STEP_A] : (long)cell[TF_STEP_A] - 65536);
 }
 
@@ -61,106 +51,29 @@ static void print_all(const uint8_t *code, size_t length, const uint32_t *depths
         fwrite(text, 1, (size_t)told[TF_LIST_LENGTH], stdout);
 }
 
-/* Following the starts through refused code: the depth at each place that was reached, and where the path came from. */
-struct paths {
-    const uint8_t *code;
-    size_t length, waiting;
-    uint32_t *depth;    /* TF_NO_DEPTH: not reached yet */
-    size_t *from, *next; /* from: SIZE_MAX for a start; next: places that are reached and not followed yet */
-    uint8_t *place;     /* 1 where an instruction starts, and at the end */
-};
-
-/* Where a path comes from: an instruction, or a start. */
-static void print_origin(uint32_t depth, size_t from)
+/* Why no depths can be given, as tf_explain tells it. */
+static void print_reason(const uint8_t *code, size_t length, const uint64_t told[TF_REASON_CELLS])
 {
-    if (from == SIZE_MAX)
-        printf("%u by a start", (unsigned)depth);
-    else
-        printf("%u by the path from offset %zu", (unsigned)depth, from);
-}
-
-/* A path leads to a place with a depth; says why where it can't. */
-static int arrive(struct paths *p, size_t from, long to, uint32_t depth)
-{
-    if (to < 0 || (size_t)to > p->length || !p->place[to]) {
-        printf("the jump at offset %zu leads to %ld, where no instruction starts\n", from, to);
-        return 0;
+    size_t at = (size_t)told[TF_REASON_OFFSET];
+    unsigned depth = (unsigned)told[TF_REASON_DEPTH], other = (unsigned)told[TF_REASON_OTHER_DEPTH];
+    switch (told[TF_REASON_KIND]) {
+    case TF_REASON_TWO_DEPTHS:
+        printf("at offset %zu the depth is %u, and %u on another way\n", at, depth, other);
+        break;
+    case TF_REASON_NO_PLACE:
+        printf("the jump at offset %zu leads to %ld, where no instruction starts\n", at, target(code, length, at));
+        break;
+    default:
+        printf("at offset %zu the instruction takes the depth %u below 0, or above 65,535\n", at, depth);
     }
-    if (p->depth[to] == TF_NO_DEPTH) {
-        p->depth[to] = depth;
-        p->from[to] = from;
-        p->next[p->waiting++] = (size_t)to;
-    } else if (p->depth[to] != depth) {
-        printf("at offset %ld the depth is ", to);
-        print_origin(p->depth[to], p->from[to]);
-        printf(", and ");
-        print_origin(depth, from);
-        printf("\n");
-        return 0;
-    }
-    return 1;
 }
 
-/* The depth that an instruction leads to, where it is one. */
-static int depth_in_range(tf_answer after, size_t at, uint32_t depth)
+static int check(const uint8_t *code, size_t length, const uint32_t *starts, size_t count, uint32_t *depths,
+                 uint32_t *work)
 {
-    if (tf_refusal(after) == 0)
-        return 1;
-    printf("at offset %zu the instruction takes the depth %u below 0, or above 65,535\n", at, (unsigned)depth);
-    return 0;
-}
-
-/* Goes on from a place; 0 where that shows a conflict. */
-static int follow(struct paths *p, size_t at)
-{
-    uint64_t cell[TF_STEP_CELLS];
-    if (tf_step(p->code, p->length, at, cell, TF_STEP_CELLS) != 1)
-        return 1;
-    uint8_t opcode = (uint8_t)cell[TF_STEP_OPCODE];
-    uint16_t depth = (uint16_t)p->depth[at];
-    tf_answer falls = tf_depth_after(depth, opcode, (uint8_t)cell[TF_STEP_SHAPE], (uint16_t)cell[TF_STEP_A],
-                                     (uint16_t)cell[TF_STEP_B], (uint8_t)cell[TF_STEP_C], (uint8_t)cell[TF_STEP_NAMES]);
-    if (!depth_in_range(falls, at, depth))
-        return 0;
-    if (tf_makes_dead(opcode) == 0 && !arrive(p, at, (long)(at + cell[TF_STEP_SIZE]), (uint32_t)tf_value(falls)))
-        return 0;
-    if (cell[TF_STEP_SHAPE] != TF_SHAPE_OFFSET)
-        return 1;
-    tf_answer taken = tf_depth_taken(depth, opcode);
-    return depth_in_range(taken, at, depth) && arrive(p, at, target(at, cell), (uint32_t)tf_value(taken));
-}
-
-/* Says where the paths from the starts first meet a conflict. */
-static void explain(const uint8_t *code, size_t length, const uint32_t *starts, size_t count, uint32_t *depths)
-{
-    size_t cells = length + 1;
-    struct paths p = {.code = code, .length = length, .depth = depths};
-    uint64_t cell[TF_STEP_CELLS];
-    p.from = calloc(cells, sizeof *p.from);
-    p.next = calloc(cells, sizeof *p.next);
-    p.place = calloc(cells, sizeof *p.place);
-    if (p.from != NULL && p.next != NULL && p.place != NULL) {
-        size_t at = 0;
-        int fine = 1;
-        for (; tf_step(code, length, at, cell, TF_STEP_CELLS) == 1; at += (size_t)cell[TF_STEP_SIZE])
-            p.place[at] = 1;
-        p.place[at] = 1;
-        for (size_t i = 0; fine && i + 1 < count; i += 2)
-            fine = arrive(&p, SIZE_MAX, (long)starts[i], starts[i + 1]);
-        while (fine && p.waiting > 0)
-            fine = follow(&p, p.next[--p.waiting]);
-    }
-    free(p.from);
-    free(p.next);
-    free(p.place);
-}
-
-static int check(const uint8_t *code, size_t length, const uint32_t *starts, size_t count, uint32_t *depths)
-{
-    signal(SIGALRM, still_at_work);
-    alarm(1);
-    tf_answer answer = tf_check(code, length, starts, count, depths, length + 1);
-    alarm(0);
+    uint64_t told[TF_REASON_CELLS];
+    tf_answer answer = tf_explain(code, length, starts, count, depths, length + 1, work, length + 1, told,
+                                  TF_REASON_CELLS);
     uint32_t refusal = tf_refusal(answer);
     if (refusal == 0) {
         print_all(code, length, depths);
@@ -171,7 +84,7 @@ static int check(const uint8_t *code, size_t length, const uint32_t *starts, siz
     else
         printf("refused %u: %s\n", (unsigned)refusal, in_words(refusal));
     if (refusal == TF_NO_DEPTHS)
-        explain(code, length, starts, count, depths);
+        print_reason(code, length, told);
     return 1;
 }
 
@@ -199,13 +112,15 @@ int main(int count, char **words)
     size_t length = 0;
     uint8_t *code = file == NULL ? NULL : read_all(file, &length);
     uint32_t *depths = code == NULL ? NULL : malloc((length + 1) * sizeof *depths);
+    uint32_t *work = code == NULL ? NULL : malloc((length + 1) * sizeof *work);
     int status = 2;
-    if (starts == NULL || depths == NULL)
+    if (starts == NULL || depths == NULL || work == NULL)
         bad("can't read", words[1]);
     else
-        status = check(code, length, starts, count == 2 ? 2 : given, depths);
+        status = check(code, length, starts, count == 2 ? 2 : given, depths, work);
     if (file != NULL)
         fclose(file);
+    free(work);
     free(depths);
     free(code);
     free(starts);

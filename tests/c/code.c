@@ -175,12 +175,31 @@ static void writing(void)
             report("a refusal writes nothing", 0);
 }
 
-/* a check of some bytes, with a cell behind the depths that has to stay as it is */
-static tf_answer checked(const char *bytes, size_t length, const uint32_t *starts, size_t cells, uint32_t *depths)
+/* What a check is lent beside the code and the starts. */
+static uint32_t depth[16], work[16];
+
+static void fresh_slices(void)
 {
-    for (size_t i = 0; i <= length + 1; i++)
-        depths[i] = 77;
-    return tf_check((const uint8_t *)bytes, length, starts, cells, depths, length + 1);
+    for (size_t i = 0; i < 16; i++)
+        depth[i] = work[i] = 77;
+}
+
+/* Whether the first cells of a slice hold a number, and the others are as they were. */
+static int filled(const uint32_t *slice, size_t count, uint32_t number)
+{
+    for (size_t i = 0; i < 16; i++)
+        if (slice[i] != (i < count ? number : 77))
+            return 0;
+    return 1;
+}
+
+/* A check of some bytes, after which the work slice has to end with zeros in the cells that it may use. */
+static tf_answer checked(const char *bytes, size_t length, const uint32_t *starts, size_t cells)
+{
+    fresh_slices();
+    tf_answer answer = tf_check((const uint8_t *)bytes, length, starts, cells, depth, length + 1, work, length + 1);
+    report("the work ends with zeros", filled(work, length + 1, 0));
+    return answer;
 }
 
 static void depths(void)
@@ -188,22 +207,89 @@ static void depths(void)
     static const char nine[] = "\x06\x5a\x03\x00\x08\x07\x00\x05\x65", loop[] = "\x05\x58\xfc\xff";
     static const uint32_t zero[] = {0, 0}, inside[] = {2, 0};
     static const uint32_t nine_depths[] = {0, 1, TF_NO_DEPTH, TF_NO_DEPTH, 0, TF_NO_DEPTH, 1, 0, 1, TF_NO_DEPTH, 77};
-    uint32_t depth[16];
-    report("the nine bytes", checked(nine, 9, zero, 2, depth) == 6);
+    report("the nine bytes", checked(nine, 9, zero, 2) == 6);
     report("their depths", memcmp(depth, nine_depths, sizeof nine_depths) == 0);
-    report("a loop that grows", tf_refusal(checked(loop, 4, zero, 2, depth)) == TF_NO_DEPTHS);
-    report("leaves no depth", depth[0] == TF_NO_DEPTH && depth[4] == TF_NO_DEPTH && depth[5] == 77);
-    report("no bytes", checked("", 0, NULL, 0, depth) == 0 && depth[0] == TF_NO_DEPTH && depth[1] == 77);
-    report("a start inside", tf_refusal(checked(nine, 9, inside, 2, depth)) == TF_BAD_STARTS && depth[0] == 77);
-    report("an odd list", tf_refusal(checked(nine, 9, zero, 1, depth)) == TF_BAD_STARTS && depth[0] == 77);
-    naming("cut short", checked(nine, 3, zero, 2, depth), TF_CUT_SHORT, 1);
-    report("leaves the depths", depth[0] == 77);
-    naming("no opcode", checked("\x05\x83", 2, zero, 2, depth), TF_UNKNOWN_OPCODE, 1);
-    report("leaves the depths", depth[0] == 77);
+    report("a loop that grows", tf_refusal(checked(loop, 4, zero, 2)) == TF_NO_DEPTHS);
+    report("leaves no depth", filled(depth, 5, TF_NO_DEPTH));
+    report("no bytes", checked("", 0, NULL, 0) == 0 && filled(depth, 1, TF_NO_DEPTH));
+    report("a start inside", tf_refusal(checked(nine, 9, inside, 2)) == TF_BAD_STARTS && filled(depth, 0, 0));
+    report("an odd list", tf_refusal(checked(nine, 9, zero, 1)) == TF_BAD_STARTS && filled(depth, 0, 0));
+    naming("cut short", checked(nine, 3, zero, 2), TF_CUT_SHORT, 1);
+    report("leaves the depths", filled(depth, 0, 0));
+    naming("no opcode", checked("\x05\x83", 2, zero, 2), TF_UNKNOWN_OPCODE, 1);
+    report("leaves the depths", filled(depth, 0, 0));
     naming("not counted either", tf_count_instructions((const uint8_t *)"\x05\x83", 2), TF_UNKNOWN_OPCODE, 1);
     naming("counted up to it", tf_count_instructions((const uint8_t *)"\x05\x05\x83", 3), TF_UNKNOWN_OPCODE, 2);
     refusal("too long to count", tf_count_instructions(long_code, sizeof long_code), TF_TOO_LARGE);
-    report("too few depths", tf_refusal(tf_check((const uint8_t *)nine, 9, zero, 2, depth, 9)) == TF_SHORT_DEPTHS);
+}
+
+/* Room that does not suffice: both slices stay as they were. */
+static void short_slices(void)
+{
+    static const uint32_t zero[] = {0, 0};
+    fresh_slices();
+    refusal("too few depths", tf_check(nine, sizeof nine, zero, 2, depth, 9, work, 10), TF_SHORT_DEPTHS);
+    refusal("too little work", tf_check(nine, sizeof nine, zero, 2, depth, 10, work, 9), TF_SHORT_DEPTHS);
+    refusal("no work", tf_check(nine, sizeof nine, zero, 2, depth, 10, NULL, 0), TF_SHORT_DEPTHS);
+    refusal("21 before 22", tf_check(nine, 3, zero, 2, depth, 4, work, 3), TF_SHORT_DEPTHS);
+    refusal("10 before 21", tf_check(long_code, sizeof long_code, zero, 2, depth, 16, work, 16), TF_TOO_LARGE);
+    report("nothing is written", filled(depth, 0, 0) && filled(work, 0, 0));
+}
+
+/* Code that no depths can be given to, from one start at its front, and the reason: with more cells than it has, with
+ * as many, and with one less. */
+static void explained(const char *what, const char *bytes, size_t length, uint32_t from,
+                      const uint64_t reason[TF_REASON_CELLS])
+{
+    const uint8_t *code = (const uint8_t *)bytes;
+    const uint32_t starts[] = {0, from};
+    const size_t rooms[] = {CELLS, TF_REASON_CELLS};
+    for (size_t i = 0; i < 2; i++) {
+        fresh_slices();
+        refusal(what, tf_explain(code, length, starts, 2, depth, 16, work, 16, fresh(), rooms[i]), TF_NO_DEPTHS);
+        report(what, memcmp(cell, reason, TF_REASON_CELLS * sizeof reason[0]) == 0 && untouched(TF_REASON_CELLS));
+        report(what, filled(depth, length + 1, TF_NO_DEPTH) && filled(work, length + 1, 0));
+    }
+    fresh_slices();
+    refused(what, tf_explain(code, length, starts, 2, depth, 16, work, 16, fresh(), TF_REASON_CELLS - 1), TF_FULL,
+            TF_TABLE_TEXT);
+    report(what, filled(depth, 0, 0) && filled(work, 0, 0));
+}
+
+static void reasons(void)
+{
+    static const uint64_t grows[] = {TF_REASON_TWO_DEPTHS, 0, 0, 1}, differ[] = {TF_REASON_TWO_DEPTHS, 4, 7, 8};
+    static const uint64_t below[] = {TF_REASON_NET_OUT_OF_RANGE, 0, 0, 0};
+    static const uint64_t above[] = {TF_REASON_NET_OUT_OF_RANGE, 1, 65535, 0};
+    static const uint64_t taken[] = {TF_REASON_TAKEN_OUT_OF_RANGE, 0, 0, 0};
+    static const uint64_t astray[] = {TF_REASON_NO_PLACE, 1, 3, 0};
+    explained("a loop that grows", "\x05\x58\xfc\xff", 4, 0, grows);
+    explained("two branches that differ", "\x5a\x01\x00\x05\x65", 5, 8, differ);
+    explained("Pop of nothing", "\x00", 1, 0, below);
+    explained("one value too many", "\x05\x05", 2, 65534, above);
+    explained("ForIter of nothing, taken", "\x5e\x00\x00", 3, 0, taken);
+    explained("a jump into an instruction", "\x05\x58\xfe\xff", 4, 2, astray);
+    explained("a jump past the end", "\x05\x58\x01\x00", 4, 2, astray);
+    explained("a jump before the code", "\x05\x58\xfb\xff", 4, 2, astray);
+}
+
+/* Where there is no reason to tell, the cells for it stay as they were. */
+static void no_reasons(void)
+{
+    static const uint32_t zero[] = {0, 0}, inside[] = {2, 0};
+    static const uint8_t unknown[] = {TF_OP_POP, NO_OPCODE};
+    value("accepted", tf_explain(nine, sizeof nine, zero, 2, depth, 10, work, 10, fresh(), CELLS), 6);
+    report("tells no reason", untouched(0) && depth[4] == 0);
+    refused("a start inside", tf_explain(nine, sizeof nine, inside, 2, depth, 10, work, 10, fresh(), CELLS),
+            TF_BAD_STARTS, 0);
+    refused("cut short", tf_explain(nine, 3, zero, 2, depth, 10, work, 10, fresh(), CELLS), TF_CUT_SHORT, 1);
+    refused("no opcode", tf_explain(unknown, 2, zero, 2, depth, 10, work, 10, fresh(), CELLS), TF_UNKNOWN_OPCODE, 1);
+    refused("too little work", tf_explain(nine, sizeof nine, zero, 2, depth, 10, work, 9, fresh(), CELLS),
+            TF_SHORT_DEPTHS, 0);
+    refused("too long", tf_explain(long_code, sizeof long_code, zero, 2, depth, 10, work, 10, fresh(), CELLS),
+            TF_TOO_LARGE, 0);
+    refused("18 before 10", tf_explain(long_code, sizeof long_code, zero, 2, depth, 10, work, 10, NULL, 0), TF_FULL,
+            TF_TABLE_TEXT);
 }
 
 /* All parts of a listing with so much room each, checked where depths are given, and whether no byte behind a part changes. */
@@ -237,11 +323,10 @@ static void listings(void)
     static const char depths[] = "depth\toffset\tname\toperands\ttarget\n0\t0\tLoadTrue\t-\t-\n1\t1\tJumpIfFalse\t3\t7\n"
                                  "0\t4\tLoadSmallInt\t7\t-\n1\t6\tPop\t-\t-\n0\t7\tLoadNone\t-\t-\n1\t8\tReturnValue\t-\t-\n-\t9\tend\t-\t-\n";
     static const uint32_t zero[] = {0, 0};
-    uint32_t depth[10];
     uint64_t told[TF_LIST_CELLS] = {0, 0};
     uint8_t text[28];
     char all[600];
-    report("the nine bytes are accepted", tf_check(nine, sizeof nine, zero, 2, depth, 10) == 6);
+    report("the nine bytes are accepted", tf_check(nine, sizeof nine, zero, 2, depth, 10, work, 10) == 6);
     for (size_t room = 35; room < 300; room += 13) {
         size_t size = listed(nine, sizeof nine, NULL, room, all);
         report("the listing in parts", size == sizeof plain - 1 && memcmp(all, plain, size) == 0);
@@ -340,6 +425,9 @@ int main(void)
     damaged();
     writing();
     depths();
+    short_slices();
+    reasons();
+    no_reasons();
     listings();
     readings();
     handlers();

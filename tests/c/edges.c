@@ -7,7 +7,7 @@
 
 /* The arrays that the calls are lent, by the fences that hold them. */
 enum { CODE = TF_TABLE_CODE, ROWS = TF_TABLE_LOCATIONS, DEPTHS = TF_TABLE_MARKS, PAIRS = TF_TABLE_STARTS,
-       NUMBERS = TF_TABLE_NAMES, OUT = TF_TABLE_TEXT, MOST = 40 };
+       WORK = TF_TABLE_EXCEPTIONS, NUMBERS = TF_TABLE_NAMES, OUT = TF_TABLE_TEXT, MOST = 40 };
 
 #define LENT(type, array) (type *)lent_at(array), lent[array].length
 
@@ -64,20 +64,63 @@ static void counts(size_t length)
         report("not counted", tf_named(answer) < length && refused_by(answer, TF_UNKNOWN_OPCODE, TF_CUT_SHORT));
 }
 
-static void checks_of(size_t length, size_t pairs, size_t room)
+/* Whether the work slice ends with so many zeros, and is otherwise as it was. */
+static int zeroed(size_t count)
+{
+    for (size_t i = 0; i < count; i++)
+        if (((const uint32_t *)lent_at(WORK))[i] != 0)
+            return 0;
+    return blank_from(WORK, count);
+}
+
+static tf_answer checks_of(size_t length, size_t pairs, size_t room, size_t work)
 {
     lend_code(length);
     lend(PAIRS, pairs);
     for (size_t i = 0; i < pairs; i++)
         ((uint32_t *)lent_at(PAIRS))[i] = random_byte() % 2;
     lend(DEPTHS, room);
+    lend(WORK, work);
     remember();
-    tf_answer answer = tf_check(LENT(const uint8_t, CODE), LENT(const uint32_t, PAIRS), LENT(uint32_t, DEPTHS));
+    tf_answer answer = tf_check(LENT(const uint8_t, CODE), LENT(const uint32_t, PAIRS), LENT(uint32_t, DEPTHS),
+                                LENT(uint32_t, WORK));
     if (tf_refusal(answer) == 0 || tf_refusal(answer) == TF_NO_DEPTHS)
-        report("depths", room > length && blank_from(DEPTHS, length + 1) && kept(CODE) && kept(PAIRS));
+        report("depths", room > length && blank_from(DEPTHS, length + 1));
     else
-        report("no depths are written", all_kept());
-    report("too few depths", (tf_refusal(answer) == TF_SHORT_DEPTHS) == (room <= length));
+        report("no depths are written", kept(DEPTHS));
+    report("the work", tf_refusal(answer) == TF_SHORT_DEPTHS ? kept(WORK) : work > length && zeroed(length + 1));
+    report("what is read stays", kept(CODE) && kept(PAIRS));
+    report("too few elements", (tf_refusal(answer) == TF_SHORT_DEPTHS) == (room <= length || work <= length));
+    return answer;
+}
+
+/* Whether what was told can be a reason. */
+static int a_reason(void)
+{
+    const uint64_t *told = lent_at(OUT);
+    return told[TF_REASON_KIND] >= TF_REASON_TWO_DEPTHS && told[TF_REASON_KIND] <= TF_REASON_NO_PLACE &&
+           told[TF_REASON_OFFSET] <= lent[CODE].length && told[TF_REASON_DEPTH] < TF_NO_DEPTH &&
+           told[TF_REASON_OTHER_DEPTH] < TF_NO_DEPTH && blank_from(OUT, TF_REASON_CELLS);
+}
+
+/* The same check once more with so much room for a reason: it leaves what the check left, and on 23 alone a reason. */
+static void explanations(tf_answer checked, size_t room)
+{
+    lend(OUT, room);
+    remember();
+    lend(DEPTHS, lent[DEPTHS].length);
+    lend(WORK, lent[WORK].length);
+    if (room < TF_REASON_CELLS)
+        remember(); /* nothing may change */
+    tf_answer answer = tf_explain(LENT(const uint8_t, CODE), LENT(const uint32_t, PAIRS), LENT(uint32_t, DEPTHS),
+                                  LENT(uint32_t, WORK), LENT(uint64_t, OUT));
+    if (room < TF_REASON_CELLS) {
+        report("no room for a reason", tf_named(answer) == TF_TABLE_TEXT && refused_by(answer, TF_FULL, TF_FULL));
+        return;
+    }
+    report("the check's answer", answer == checked);
+    report("and its elements", kept(CODE) && kept(PAIRS) && kept(DEPTHS) && kept(WORK));
+    report("a reason on 23 alone", tf_refusal(answer) == TF_NO_DEPTHS ? a_reason() : kept(OUT));
 }
 
 /* Both lookups in rows, and both in numbers, with rows of any length and so much room. */
@@ -164,7 +207,8 @@ int main(void)
         steps(length);
         for (size_t round = 0; round < MOST; round++) {
             counts(length);
-            checks_of(length, round % 6, length + round % 4);
+            tf_answer checked = checks_of(length, round % 6, length + round % 4, length + round / 4 % 4);
+            explanations(checked, round % 7);
             lookups(length, round % 9);
         }
     }

@@ -2,7 +2,13 @@
 //! same. Both sides do the same work on the same bytes, turn by turn in one process; the ratio is that of the medians.
 //! Buffers are warm: each side has run once before it is timed.
 
-use bench::{building, checker, decode, emission, listing, lookups::Tables, readback, row};
+use bench::{
+    building, checked,
+    checker::{Plain, Proved},
+    decode, emission, listing,
+    lookups::Tables,
+    readback, row,
+};
 use std::{cell::RefCell, env, time::Instant};
 
 /// Two ways to do one piece of work, each answering a number that must agree.
@@ -51,14 +57,22 @@ fn main() {
         };
         measure(&pair, repetitions);
     }
-    let checked = checker::code(1 << 20);
-    let depths = RefCell::new(vec![0; checked.len() + 1]);
-    let pair = Pair {
-        what: "check 1 MiB, jumps forward",
-        proved: &|| checker::proved(&checked, &mut depths.borrow_mut()),
-        plain: &|| checker::plain(&checked, &mut depths.borrow_mut()),
-    };
-    measure(&pair, repetitions);
+    for work in checked::works() {
+        let (proved, plain) = (Proved::new(&work), Plain::new(&work));
+        let (proved, plain) = (RefCell::new(proved), RefCell::new(plain));
+        let pair = Pair {
+            what: &work.what,
+            proved: &|| proved.borrow_mut().check(&work),
+            plain: &|| plain.borrow_mut().check(&work),
+        };
+        measure(&pair, repetitions);
+        assert_eq!(
+            proved.borrow().depths,
+            plain.borrow().depths,
+            "{}",
+            work.what
+        );
+    }
     for (rows, locations, handlers) in [
         (
             32,

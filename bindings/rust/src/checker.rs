@@ -1,9 +1,12 @@
 //! The depth checker: whether all paths through code meet with the same depth of the stack.
 
-use crate::{Refusal, sys};
+use crate::{CheckError, Reason, Refusal, sys};
 
 /// What stands where an offset has no depth.
 pub const NO_DEPTH: u32 = 65_536;
+
+/// The most bytes of code.
+const CODE_MOST: usize = 1_048_576;
 
 /// Code that was accepted: the depth of the stack before each instruction that a start leads to.
 #[derive(Debug, Clone, PartialEq, Eq)]
@@ -34,7 +37,8 @@ impl Checked {
     }
 }
 
-/// Checks code from its starts: an offset, its depth, the next offset, and so on.
+/// Checks code from its starts: an offset, its depth, the next offset, and so on. The time is in proportion to the code's
+/// length and the number of starts (measured, not proved). Who checks again and again keeps a [`Checker`].
 ///
 /// # Errors
 /// In this order: 10 for code over 1,048,576 bytes; 1 or 22, which name the lowest faulty offset; 20 for starts that
@@ -53,18 +57,170 @@ impl Checked {
 /// # Ok::<(), Refusal>(())
 /// ```
 pub fn check(code: &[u8], starts: &[u32]) -> Result<Checked, Refusal> {
-    // Code over the limit is refused before the depths are asked for.
-    let mut depths = vec![NO_DEPTH; code.len().min(1_048_576) + 1];
-    let count = check_into(code, starts, &mut depths)?;
-    Ok(Checked { count, depths })
+    let mut checker = Checker::new();
+    checker.check(code, starts)?;
+    Ok(checker.checked)
 }
 
-/// The same into a lent slice: its first cells, one more than the code has bytes, hold the depths and [`NO_DEPTH`]
-/// elsewhere; on 23 they all hold that. Any other refusal writes nothing, and no later cell is ever written. Answers
-/// the count.
+/// The same, and where no depths can be given also why. The reason is proved to hold; where several do, it is one of them.
 ///
 /// # Errors
-/// As [`check`], with 21 behind 10 for a slice that is too short.
-pub fn check_into(code: &[u8], starts: &[u32], depths: &mut [u32]) -> Result<usize, Refusal> {
-    sys::check(code, starts, depths).read().map(|count| count as usize)
+/// As [`check`]; 23 has its [`Reason`].
+///
+/// ```
+/// use tokenfinch::{Reason, explain};
+///
+/// // A loop that leaves a value on the stack each time round.
+/// let error = explain(&[0x05, 0x58, 0xFC, 0xFF], &[0, 0]).unwrap_err();
+/// assert_eq!(error.refusal().number(), 23);
+/// assert_eq!(error.reason(), Some(Reason::TwoDepths { place: 0, depths: [0, 1] }));
+/// // A Pop where the stack is empty.
+/// let error = explain(&[0x00], &[0, 0]).unwrap_err();
+/// assert_eq!(error.reason(), Some(Reason::DepthOutOfRange { at: 0, depth: 0 }));
+/// ```
+pub fn explain(code: &[u8], starts: &[u32]) -> Result<Checked, CheckError> {
+    let mut checker = Checker::new();
+    checker.explain(code, starts)?;
+    Ok(checker.checked)
+}
+
+/// The same as [`check`] into lent slices. The first cells of `depths`, one more than the code has bytes, hold the depths
+/// and [`NO_DEPTH`] elsewhere; on 23 they all hold that; any other refusal writes nothing there. As many cells of `work`
+/// are used, whatever they hold, and end with zeros, accepted or not; 10 and 21 leave them as they are. No later cell of
+/// either is ever written. Answers the count.
+///
+/// # Errors
+/// As [`check`], with 21 behind 10 where one of the slices is too short.
+///
+/// ```
+/// use tokenfinch::{NO_DEPTH, Refusal, check_into};
+///
+/// let (mut depths, mut work) = ([0; 4], [7; 4]);
+/// assert_eq!(check_into(&[0x05, 0x65], &[0, 0], &mut depths, &mut work)?, 2);
+/// assert_eq!(depths, [0, 1, NO_DEPTH, 0]);
+/// assert_eq!(work, [0, 0, 0, 7]);
+/// # Ok::<(), Refusal>(())
+/// ```
+pub fn check_into(code: &[u8], starts: &[u32], depths: &mut [u32], work: &mut [u32]) -> Result<usize, Refusal> {
+    let answer = sys::check(code, starts, depths, work);
+    answer.read().map(|count| count as usize)
+}
+
+/// A checker that keeps its memory from one call to the next, for an editor that checks at each keystroke. It keeps nothing
+/// else: each call answers as [`check`] and [`explain`] do.
+///
+/// ```
+/// use tokenfinch::{CheckError, Checker};
+///
+/// let mut checker = Checker::new();
+/// let mut code = vec![0x05];
+/// assert_eq!(checker.explain(&code, &[0, 0])?.depth_at(1), Some(1));
+/// code.extend([0x00, 0x00]);
+/// let why = checker.explain(&code, &[0, 0]).unwrap_err();
+/// assert_eq!(
+///     why.to_string(),
+///     "refused 23: no depths can be given: the instruction at offset 2 takes the depth 0 below 0, or above 65,535"
+/// );
+/// code.pop();
+/// assert_eq!(checker.explain(&code, &[0, 0])?.count(), 2);
+/// # Ok::<(), CheckError>(())
+/// ```
+#[derive(Debug, Clone)]
+pub struct Checker {
+    checked: Checked,
+    work: Vec<u32>,
+}
+
+impl Default for Checker {
+    fn default() -> Self {
+        Self::new()
+    }
+}
+
+impl Checker {
+    /// One that has no memory yet.
+    #[must_use]
+    pub fn new() -> Self {
+        let (count, depths) = (0, Vec::new());
+        Self {
+            checked: Checked { count, depths },
+            work: Vec::new(),
+        }
+    }
+
+    /// As [`check`].
+    ///
+    /// # Errors
+    /// As [`check`].
+    pub fn check(&mut self, code: &[u8], starts: &[u32]) -> Result<&Checked, Refusal> {
+        self.make_room(code);
+        self.checked.count = check_into(code, starts, &mut self.checked.depths, &mut self.work)?;
+        Ok(&self.checked)
+    }
+
+    /// As [`explain`].
+    ///
+    /// # Errors
+    /// As [`explain`].
+    pub fn explain(&mut self, code: &[u8], starts: &[u32]) -> Result<&Checked, CheckError> {
+        self.make_room(code);
+        let mut told = [0; Reason::CELLS];
+        let answer = sys::explain(code, starts, &mut self.checked.depths, &mut self.work, &mut told);
+        let count = answer.read().map_err(|refusal| CheckError::new(refusal, told))?;
+        self.checked.count = count as usize;
+        Ok(&self.checked)
+    }
+
+    /// Makes both slices as long as the code asks for. What they hold does not matter.
+    fn make_room(&mut self, code: &[u8]) {
+        // Code over the limit is refused before the cells are asked for.
+        let cells = code.len().min(CODE_MOST) + 1;
+        self.checked.depths.resize(cells, NO_DEPTH);
+        self.work.resize(cells, 0);
+    }
+}
+
+#[cfg(test)]
+mod tests {
+    use super::*;
+
+    #[test]
+    fn a_checker_answers_as_one_that_is_new() {
+        let mut checker = Checker::new();
+        let nops = vec![105; CODE_MOST + 1];
+        for (code, starts) in [
+            (&nops[..9], &[0, 3][..]),
+            (&nops[..2], &[0, 0]),
+            (&[5, 88, 0xFC, 0xFF], &[0, 0]),
+            (&nops[..CODE_MOST], &[0, 0]),
+            (&nops, &[0, 0]),
+            (&[131], &[]),
+            (&[8], &[]),
+            (&nops[..3], &[9, 9]),
+            (&[], &[0, 1]),
+            (&[6, 90, 1, 0, 5], &[0, 0]),
+        ] {
+            let checked = check(code, starts);
+            assert_eq!(checker.check(code, starts).cloned(), checked);
+            let explained = checker.explain(code, starts).cloned();
+            assert_eq!(explained, explain(code, starts));
+            assert_eq!(explained.map_err(CheckError::refusal), checked);
+        }
+    }
+
+    #[test]
+    fn each_reason_is_told() {
+        let why = |code: &[u8], starts: &[u32]| explain(code, starts).unwrap_err().reason();
+        let two = |place, depths| Some(Reason::TwoDepths { place, depths });
+        assert_eq!(why(&[], &[0, 1, 0, 2]), two(0, [1, 2]));
+        assert_eq!(why(&[5, 88, 0xFC, 0xFF], &[0, 7]), two(0, [7, 8]));
+        let falls = |at, depth| Some(Reason::DepthOutOfRange { at, depth });
+        assert_eq!(why(&[5, 0, 0], &[0, 0]), falls(2, 0));
+        assert_eq!(why(&[5], &[0, 65_535]), falls(0, 65_535));
+        let taken = Some(Reason::TakenOutOfRange { at: 0, depth: 0 });
+        assert_eq!(why(&[94, 0, 0], &[0, 0]), taken);
+        assert_eq!(why(&[88, 9, 0], &[0, 4]), Some(Reason::NoPlace { at: 0, depth: 4 }));
+        assert_eq!(why(&[88, 0, 0x80], &[0, 4]), Some(Reason::NoPlace { at: 0, depth: 4 }));
+        assert_eq!(why(&[131], &[0, 0]), None);
+    }
 }

@@ -30,6 +30,7 @@ mod listing;
 pub mod lookups;
 mod opcode;
 mod operand;
+mod reason;
 mod refusal;
 pub mod rules;
 #[allow(unsafe_code)]
@@ -37,10 +38,11 @@ mod sys;
 
 pub use asserts::{CmpOperator, assert_flags, decode_assert_flags};
 pub use builder::{CodeBuilder, JumpLabel, JumpTarget, Offset};
-pub use checker::{Checked, NO_DEPTH, check, check_into};
+pub use checker::{Checked, Checker, NO_DEPTH, check, check_into, explain};
 pub use code::{Code, CodeRange, ExceptionEntry, HandlerKind, LocationEntry, StringId};
 pub use decoder::{Instruction, Instructions, instructions, step};
 pub use listing::{listing, read_listing, read_listing_into};
 pub use opcode::Opcode;
 pub use operand::{Operand, Shape};
+pub use reason::{CheckError, Reason};
 pub use refusal::{ReadError, Refusal, Table};

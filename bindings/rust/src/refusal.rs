@@ -48,7 +48,7 @@ pub enum Refusal {
     Unsound,
     /// 20: the starts are no list of offsets and depths of this code.
     BadStarts,
-    /// 21: fewer depths are lent than bytes of code and one.
+    /// 21: of the checker's two slices, one has fewer cells than there are bytes of code and one.
     ShortDepths,
     /// 22: the instruction at this offset is cut short by the code's end.
     CutShort(usize),
@@ -242,7 +242,7 @@ impl Refusal {
             Self::Full(_) => "there is no room left",
             Self::Unsound => "what the builder holds has been changed from outside, and does not fit together",
             Self::BadStarts => "a start is at no instruction and not at the end, or its depth is over 65,535",
-            Self::ShortDepths => "fewer depths are lent than bytes of code and one",
+            Self::ShortDepths => "fewer depths or work cells are lent than bytes of code and one",
             Self::CutShort(_) => "an instruction is cut short by the code's end",
             Self::NoDepths => "no depths can be given",
             Self::NotALine => "not a line that listing prints",

@@ -25,6 +25,20 @@ mod c {
             start_cells: usize,
             depths: *mut u32,
             room: usize,
+            work: *mut u32,
+            work_room: usize,
+        ) -> u64;
+        pub fn tf_explain(
+            code: *const u8,
+            length: usize,
+            starts: *const u32,
+            start_cells: usize,
+            depths: *mut u32,
+            room: usize,
+            work: *mut u32,
+            work_room: usize,
+            told: *mut u64,
+            told_room: usize,
         ) -> u64;
         pub fn tf_location_for_offset(
             rows: *const u32,
@@ -260,7 +274,7 @@ pub fn step(code: &[u8], at: usize, out: &mut [u64]) -> Answer {
     Answer(unsafe { c::tf_step(code.as_ptr(), code.len(), at, out.as_mut_ptr(), out.len()) })
 }
 
-pub fn check(code: &[u8], starts: &[u32], depths: &mut [u32]) -> Answer {
+pub fn check(code: &[u8], starts: &[u32], depths: &mut [u32], work: &mut [u32]) -> Answer {
     Answer(unsafe {
         c::tf_check(
             code.as_ptr(),
@@ -269,6 +283,25 @@ pub fn check(code: &[u8], starts: &[u32], depths: &mut [u32]) -> Answer {
             starts.len(),
             depths.as_mut_ptr(),
             depths.len(),
+            work.as_mut_ptr(),
+            work.len(),
+        )
+    })
+}
+
+pub fn explain(code: &[u8], starts: &[u32], depths: &mut [u32], work: &mut [u32], told: &mut [u64]) -> Answer {
+    Answer(unsafe {
+        c::tf_explain(
+            code.as_ptr(),
+            code.len(),
+            starts.as_ptr(),
+            starts.len(),
+            depths.as_mut_ptr(),
+            depths.len(),
+            work.as_mut_ptr(),
+            work.len(),
+            told.as_mut_ptr(),
+            told.len(),
         )
     })
 }

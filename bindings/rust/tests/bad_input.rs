@@ -8,7 +8,7 @@ use std::ptr::{null, null_mut};
 
 use common::Random;
 use tokenfinch::{
-    NO_DEPTH, Refusal, Table, check_into, instructions,
+    Checked, NO_DEPTH, Refusal, Table, check_into, explain, instructions,
     lent::{Emission, Lent, STATE_CELLS},
     lookups, step,
 };
@@ -222,26 +222,37 @@ fn any_bytes_and_slices() {
         let at = random.number(64) as usize;
         assert!(at < code.len() || step(&code, at) == Ok(None));
         let starts: Vec<u32> = (0..random.below(5)).map(|_| random.number(32) as u32).collect();
-        check_any(&code, &starts, random.below(50) as u32);
+        check_any(&code, &starts, [50, 50].map(|most| random.below(most) as u32));
     }
 }
 
-/// The checker with a slice of so many cells: what it may write, and what it may not.
-fn check_any(code: &[u8], starts: &[u32], cells: u32) {
-    let mut depths: Vec<u32> = (0..cells).collect();
-    let before = depths.clone();
-    let answer = check_into(code, starts, &mut depths);
+/// The checker with slices of so many cells: what it may write, and what it may not.
+fn check_any(code: &[u8], starts: &[u32], cells: [u32; 2]) {
+    let [depths_before, work_before] = cells.map(|cells| (7..7 + cells).collect::<Vec<u32>>());
+    let (mut depths, mut work) = (depths_before.clone(), work_before.clone());
+    let answer = check_into(code, starts, &mut depths, &mut work);
     let used = code.len() + 1;
-    match answer {
-        Ok(_) => assert_eq!(depths[used..], before[used..]),
-        Err(Refusal::NoDepths) => {
-            assert!(depths[..used].iter().all(|&depth| depth == NO_DEPTH));
-            assert_eq!(depths[used..], before[used..]);
-        }
-        Err(_) => assert_eq!(depths, before),
+    let short = depths.len().min(work.len()) < used;
+    assert_eq!(answer == Err(Refusal::ShortDepths), short);
+    if short {
+        assert_eq!((depths, work), (depths_before, work_before));
+        return;
     }
-    if before.len() < used {
-        assert_eq!(answer, Err(Refusal::ShortDepths));
+    match answer {
+        Ok(_) => {}
+        Err(Refusal::NoDepths) => assert!(depths[..used].iter().all(|&depth| depth == NO_DEPTH)),
+        Err(_) => assert_eq!(depths[..used], depths_before[..used]),
+    }
+    assert_eq!(depths[used..], depths_before[used..]);
+    assert!(work[..used].iter().all(|&cell| cell == 0));
+    assert_eq!(work[used..], work_before[used..]);
+    let explained = explain(code, starts);
+    assert_eq!(
+        explained.as_ref().map(Checked::depths).map_err(|error| error.refusal()),
+        answer.map(|_| &depths[..used])
+    );
+    if let Err(error) = explained {
+        assert_eq!(error.reason().is_some(), error.refusal() == Refusal::NoDepths);
     }
 }
 
@@ -291,7 +302,21 @@ unsafe extern "C" {
         starts: *const u32,
         start_cells: usize,
         depths: *mut u32,
-        room: usize,
+        cells: usize,
+        work: *mut u32,
+        work_cells: usize,
+    ) -> u64;
+    fn tf_explain(
+        code: *const u8,
+        length: usize,
+        starts: *const u32,
+        start_cells: usize,
+        depths: *mut u32,
+        cells: usize,
+        work: *mut u32,
+        work_cells: usize,
+        told: *mut u64,
+        told_cells: usize,
     ) -> u64;
 }
 
@@ -306,7 +331,7 @@ fn null_and_no_cells() {
     let mut state = [0; STATE_CELLS];
     let cells = state.as_mut_ptr();
     // SAFETY: each pointer is null beside a length of 0, or has as many cells behind it as is said.
-    let [new, emit, look, read] = unsafe {
+    let [new, emit, look, read, checked] = unsafe {
         let new = [
             tfb_new(0, null_mut(), 0, null_mut(), 0),
             tfb_new(0, cells, STATE_CELLS - 1, null_mut(), 0),
@@ -342,10 +367,17 @@ fn null_and_no_cells() {
         let read = [
             tf_step(null(), 0, 0, null_mut(), 0),
             tf_step([5].as_ptr(), 1, 0, null_mut(), 0),
-            tf_check(null(), 0, null(), 0, null_mut(), 0),
-            tf_check(null(), 0, null(), 0, [0].as_mut_ptr(), 1),
+            tf_step([5].as_ptr(), 1, 1, null_mut(), 0),
+            tf_step(null(), 0, usize::MAX, null_mut(), 0),
         ];
-        [new, [dead[0], dead[1], live[0], live[1]], look, read]
+        let (one, other) = (&mut [0], &mut [0]);
+        let checked = [
+            tf_check(null(), 0, null(), 0, null_mut(), 0, null_mut(), 0),
+            tf_check(null(), 0, null(), 0, one.as_mut_ptr(), 1, null_mut(), 0),
+            tf_check(null(), 0, null(), 0, one.as_mut_ptr(), 1, other.as_mut_ptr(), 1),
+            tf_explain(null(), 0, null(), 0, null_mut(), 0, null_mut(), 0, null_mut(), 0),
+        ];
+        [new, [dead[0], dead[1], live[0], live[1]], look, read, checked]
     };
     let full = |table: Table| [18, table as u64];
     assert_eq!(new.map(halves), [[19, 0], [19, 0], full(Table::Starts), [0, 0]]);
@@ -354,5 +386,6 @@ fn null_and_no_cells() {
         look.map(halves),
         [full(Table::Text), [19, 0], full(Table::Constants), [19, 0]]
     );
-    assert_eq!(read.map(|answer| halves(answer)[0]), [0, 18, 21, 0]);
+    assert_eq!(read.map(|answer| halves(answer)[0]), [0, 18, 0, 0]);
+    assert_eq!(checked.map(|answer| halves(answer)[0]), [21, 21, 0, 18]);
 }

@@ -1,7 +1,7 @@
 //! The lines that need no builder: the opcode rules, and the decoder, the checker, a lookup and the reading of a listing on
 //! what the line gives.
 
-use tokenfinch::{check_into, lookups, read_listing_into, rules, step};
+use tokenfinch::{Refusal, check_into, lookups, read_listing_into, rules, step};
 
 use super::{
     out::Out,
@@ -10,7 +10,7 @@ use super::{
     words::Words,
 };
 
-/// The most cells of a slice of depths, or of code that a listing is read into.
+/// The most cells of a slice of the checker's, or of code that a listing is read into.
 const CELLS_MOST: usize = 2_000_000;
 
 /// The most bytes of `check_zeros`, and which byte they are.
@@ -25,6 +25,7 @@ const NO_FLAGS: u8 = 11;
 #[derive(Default)]
 pub struct Given {
     depths: Vec<u32>,
+    work: Vec<u32>,
     code: Vec<u8>,
 }
 
@@ -66,26 +67,26 @@ impl Given {
     fn check(&mut self, mut words: Words<'_>, out: &mut Out) -> Option<()> {
         let code = words.bytes()?;
         let starts: Vec<u32> = words.numbers()?;
-        fill(&mut self.depths, code.len() + 1);
-        match check_into(&code, &starts, &mut self.depths) {
+        match self.checked([code.len() + 1; 2], &code, &starts) {
             Ok(count) => out.ok().value(count).values(&self.depths),
             Err(refusal) => out.refused(refusal),
         };
         Some(())
     }
 
-    /// `check_slice CELLS HEX O D ..`
+    /// `check_slice CELLS WORK HEX O D ..`
     fn check_slice(&mut self, mut words: Words<'_>, out: &mut Out) -> Option<()> {
-        let cells = words.size(CELLS_MOST)?;
+        let cells = [words.size(CELLS_MOST)?, words.size(CELLS_MOST)?];
         let code = words.bytes()?;
         let starts: Vec<u32> = words.numbers()?;
         self.check_sum(cells, &code, &starts, out);
         Some(())
     }
 
-    /// `check_zeros N CELLS`
+    /// `check_zeros N CELLS WORK`
     fn check_zeros(&mut self, mut words: Words<'_>, out: &mut Out) -> Option<()> {
-        let (length, cells) = (words.size(ZEROS_MOST)?, words.size(CELLS_MOST)?);
+        let length = words.size(ZEROS_MOST)?;
+        let cells = [words.size(CELLS_MOST)?, words.size(CELLS_MOST)?];
         words.end()?;
         self.check_sum(cells, &vec![NOP; length], &[], out);
         Some(())
@@ -105,14 +106,20 @@ impl Given {
         Some(())
     }
 
-    /// A check with the sum of the whole slice that it was lent.
-    fn check_sum(&mut self, cells: usize, code: &[u8], starts: &[u32], out: &mut Out) {
-        fill(&mut self.depths, cells);
-        match check_into(code, starts, &mut self.depths) {
+    /// A check with the sums of the whole slices that it was lent.
+    fn check_sum(&mut self, cells: [usize; 2], code: &[u8], starts: &[u32], out: &mut Out) {
+        match self.checked(cells, code, starts) {
             Ok(count) => out.ok().value(count),
             Err(refusal) => out.refused(refusal),
         };
-        out.value(sum(&self.depths));
+        out.value(sum(&self.depths)).value(sum(&self.work));
+    }
+
+    /// A check that is lent so many cells of depths and of work.
+    fn checked(&mut self, [depths, work]: [usize; 2], code: &[u8], starts: &[u32]) -> Result<usize, Refusal> {
+        fill(&mut self.depths, depths);
+        fill(&mut self.work, work);
+        check_into(code, starts, &mut self.depths, &mut self.work)
     }
 }
 

@@ -146,6 +146,8 @@ mod tests {
             "check table 4 05",
             "write_file 9",
             "read_file 1 1 1 1 1 1 00",
+            "check_slice strict 2 2 05",
+            "check_zeros table 4 1 2 2",
             "draw 1 1 1 05",
             "locate 1 1",
             "new table 4 dead 0 0 0 0 0 0 0",
@@ -212,11 +214,18 @@ mod tests {
                 .collect();
             assert_eq!(answers(format!("new dead {}", sizes.join(" ")).as_bytes()), "? 1\n");
         }
-        assert_eq!(
-            answers(b"check_slice 2000000 -\ncheck_slice 2000001 -").lines().last(),
-            Some("? 2")
-        );
-        assert_eq!(answers(b"check_zeros 1048601 0\ncheck_zeros 0 2000001"), "? 1\n? 2\n");
+        let told = told([
+            "check_slice 2000000 2000000 -",
+            "check_slice 2000001 1 -",
+            "check_slice 1 2000001 -",
+            "check_slice 1 -",
+            "check_zeros 1048601 0 0",
+            "check_zeros 0 2000001 1",
+            "check_zeros 0 1 2000001",
+            "check_zeros 0 1",
+        ]);
+        assert!(told[0].starts_with("ok 0 "));
+        assert_eq!(told[1..], ["? 2", "? 3", "? 4", "? 5", "? 6", "? 7", "? 8"]);
     }
 
     #[test]

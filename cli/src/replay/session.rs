@@ -1,7 +1,7 @@
 //! The lines on a builder and its tables, and the way of every line to the call that it names.
 
 use tokenfinch::{
-    Refusal, Table, check_into,
+    Refusal, Table, check,
     lent::{Call, DEAD, DEAD_ROW, Emission, Lent, STATE_CELLS},
     lookups::{self, Row},
 };
@@ -344,9 +344,8 @@ impl Session {
         words.end()?;
         let code = used(&self.lent.code, self.lent.count(Table::Code), 1)?;
         let starts = used(&self.lent.starts, self.lent.count(Table::Starts), 2)?;
-        let mut depths = vec![0; code.len() + 1];
-        match check_into(code, starts, &mut depths) {
-            Ok(count) => out.ok().value(count).value(sum(&depths)),
+        match check(code, starts) {
+            Ok(checked) => out.ok().value(checked.count()).value(sum(checked.depths())),
             Err(refusal) => out.refused(refusal),
         };
         Some(())

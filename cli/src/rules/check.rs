@@ -1,38 +1,66 @@
-//! `rules check`: the listing of a rule with the depth of the stack in front of each line, or why there are no depths.
+//! `rules check`: the listing of a rule with the depth of the stack in front of each line, or why there are no depths. With
+//! `--watch` the verdict alone, again and again.
 
 use std::{
     ffi::{OsStr, OsString},
     io::{self, BufWriter, Write},
-    sync::mpsc::{self, RecvTimeoutError},
-    thread,
-    time::Duration,
 };
 
-use tokenfinch::{Refusal, check};
+use tokenfinch::{CheckError, explain};
 
-use super::{Outcome, Trouble, paths, read, said};
+use super::{Outcome, Trouble, read, reasons::Refused, said, watch};
 
 /// The most bytes of a rule.
 const CODE_MOST: u64 = 1_048_576;
 
-pub fn run(file: &OsStr, starts: &[OsString]) -> Outcome {
-    let starts = self::starts(&starts.iter().collect::<Vec<_>>())?;
-    // One byte more than a rule may have tells that it has too many, without reading on.
-    let code = read(file, CODE_MOST + 1)?;
-    let mut out = BufWriter::new(io::stdout().lock());
-    let accepted = match with_patience(|| check(&code, &starts)) {
-        Ok(checked) => {
-            // The library made these bytes, and is proved to; they are handed on unread.
-            out.write_all(&checked.listing(&code).map_err(|refusal| said(refusal.to_string()))?)?;
-            true
-        }
-        Err(refusal) => {
-            print_refusal(&mut out, &code, &starts, refusal)?;
-            false
-        }
+/// `--watch` may stand anywhere; the first other word is the rule, those behind it are starts.
+pub fn run(words: &[OsString]) -> Outcome {
+    let (options, others): (Vec<_>, Vec<_>) = words.iter().partition(|word| *word == "--watch");
+    let Some((file, starts)) = others.split_first() else {
+        return Err(said(
+            "check takes a file, or - for standard input, and starts OFFSET:DEPTH",
+        ));
     };
+    let starts = self::starts(starts)?;
+    if options.is_empty() {
+        once(file, &starts)
+    } else {
+        watch::run(file, &starts)
+    }
+}
+
+fn once(file: &OsStr, starts: &[u32]) -> Outcome {
+    let code = rule(file)?;
+    let mut out = BufWriter::new(io::stdout().lock());
+    let checked = explain(&code, starts);
+    match &checked {
+        // The library made these bytes, and is proved to; they are handed on unread.
+        Ok(checked) => out.write_all(&checked.listing(&code).map_err(|refusal| said(refusal.to_string()))?)?,
+        Err(error) => writeln!(out, "{}", refused(&code, starts, *error))?,
+    }
     out.flush()?;
-    Ok(accepted)
+    Ok(checked.is_ok())
+}
+
+/// A rule's bytes. One byte more than a rule may have tells that it has too many, without reading on.
+pub fn rule(file: &OsStr) -> Result<Vec<u8>, Trouble> {
+    read(file, CODE_MOST + 1)
+}
+
+/// A refusal in one line: its number, the offset that it is about, where there is one, and why.
+pub fn refused(code: &[u8], starts: &[u32], error: CheckError) -> String {
+    let refused = Refused {
+        code,
+        starts,
+        name: |offset| format!("offset {offset}"),
+        end: "at the end",
+    };
+    let named = match error.reason() {
+        Some(reason) => Some(reason.offset()),
+        None => error.refusal().offset(),
+    };
+    let place = named.map_or(String::new(), |offset| format!(" at offset {offset}"));
+    format!("refused {}{place}: {}", error.refusal().number(), refused.words(error))
 }
 
 /// The starts that words give; 0:0 where there are none.
@@ -54,36 +82,6 @@ fn start(word: &OsStr) -> Option<[u32; 2]> {
     };
     let (offset, depth) = word.to_str()?.split_once(':')?;
     Some([number(offset)?, number(depth)?])
-}
-
-/// Says each second that the work goes on: its time can grow with the square of the code's length.
-pub fn with_patience<T>(work: impl FnOnce() -> T) -> T {
-    thread::scope(|scope| {
-        let (done, waiting) = mpsc::channel::<()>();
-        scope.spawn(move || {
-            while waiting.recv_timeout(Duration::from_secs(1)) == Err(RecvTimeoutError::Timeout) {
-                eprintln!("rules: still at work ..");
-            }
-        });
-        let result = work();
-        drop(done);
-        result
-    })
-}
-
-/// The refusal in words; for 23 also where the paths from the starts first show it.
-fn print_refusal(out: &mut impl Write, code: &[u8], starts: &[u32], refusal: Refusal) -> io::Result<()> {
-    match refusal {
-        Refusal::TooLarge => writeln!(out, "refused 10: the code is over 1,048,576 bytes"),
-        Refusal::NoDepths => {
-            writeln!(out, "{refusal}")?;
-            match paths::conflict(code, starts) {
-                Some(conflict) => writeln!(out, "{conflict}"),
-                None => Ok(()),
-            }
-        }
-        other => writeln!(out, "{other}"),
-    }
 }
 
 #[cfg(test)]
@@ -112,7 +110,24 @@ mod tests {
     }
 
     #[test]
-    fn what_takes_long_is_waited_for() {
-        assert_eq!(with_patience(|| 7), 7);
+    fn a_refusal_is_one_line() {
+        let told =
+            |code: &[u8], starts: &[u32]| refused(code, starts, explain(code, starts).expect_err("it is refused"));
+        assert_eq!(
+            told(&[5, 0, 0], &[0, 0]),
+            "refused 23 at offset 2: Pop needs at least 1 value on the stack; it has none here"
+        );
+        assert_eq!(
+            told(&[5, 8], &[0, 0]),
+            "refused 22 at offset 1: an instruction is cut short by the code's end"
+        );
+        assert_eq!(
+            told(&[5], &[7, 0]),
+            "refused 20: the start 7:0 is at no instruction and not at the end, 1"
+        );
+        assert_eq!(
+            told(&vec![105; 1_048_577], &[]),
+            "refused 10: the code is over 1,048,576 bytes"
+        );
     }
 }

@@ -8,7 +8,7 @@ use std::{
     process,
 };
 
-use tokenfinch::{check, read_listing};
+use tokenfinch::{explain, read_listing};
 
 use super::{Outcome, Trouble, check as checking, meeting, misread, read, said};
 
@@ -37,8 +37,8 @@ pub fn run(words: &[OsString]) -> Outcome {
         }
     };
     if let Some(starts) = &asked.starts {
-        if let Err(refusal) = checking::with_patience(|| check(&code, starts)) {
-            eprintln!("{}", meeting::why(&shown, &code, starts, refusal));
+        if let Err(error) = explain(&code, starts) {
+            eprintln!("{}", meeting::why(&shown, &code, starts, error));
             return Ok(false);
         }
     }

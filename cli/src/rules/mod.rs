@@ -7,7 +7,9 @@ mod listing;
 mod meeting;
 mod misread;
 mod opcodes;
-mod paths;
+mod origins;
+mod reasons;
+mod watch;
 
 use std::{
     ffi::{OsStr, OsString},
@@ -71,10 +73,7 @@ fn command(words: &[OsString]) -> Outcome {
     match (name.as_ref(), rest) {
         ("listing", [file]) => listing::run(file),
         ("listing", _) => Err(said("listing takes one file, or - for standard input")),
-        ("check", [file, starts @ ..]) => check::run(file, starts),
-        ("check", []) => Err(said(
-            "check takes a file, or - for standard input, and starts OFFSET:DEPTH",
-        )),
+        ("check", words) => check::run(words),
         ("compile", words) => compile::run(words),
         ("opcodes", []) => opcodes::run(&mut io::stdout().lock()),
         ("replay", []) => match replay::run(io::stdin().lock(), io::stdout().lock()) {

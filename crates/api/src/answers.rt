@@ -50,7 +50,7 @@ pub fn of_checked(checked: Checked) -> u64
     ensures { λ r. ⌜ r ≡ checkAnswer checked ⌝ }
 {
     match checked {
-        Checked::Accepted(count) => count as u64,
+        Checked::Accepted(assignment) => assignment.count as u64,
         Checked::Refused(refusal) => refused(refusal),
     }
 }

@@ -8,8 +8,8 @@ use crate::answers;
 use op::Refusal;
 use op::Table;
 
-// All of some numbers to the front of a slice.
-fn copy_in(given: &[u64], out: &mut [u64])
+// All of some numbers to the front of a slice. The one writer of lent cells.
+pub fn copy_in(given: &[u64], out: &mut [u64])
     requires { ⌜ length (now given) ≤ length (now out) ⌝ }
     ensures { λ r. ⌜ now (out .exit) ≡ front (now (given .entry)) (now (out .entry)) ⌝ }
 {
@@ -20,7 +20,7 @@ fn copy_in(given: &[u64], out: &mut [u64])
     }
 }
 
-// Tells some numbers: 1, or 18 and no change. The one writer of lent cells.
+// Tells some numbers: 1, or 18 and no change.
 pub fn tell(given: &[u64], out: &mut [u64]) -> u64
     ensures { λ r. ⌜ Tells (numbers (now (given .entry))) (now (out .entry)) r (now (out .exit)) ⌝ }
 {

@@ -12,7 +12,7 @@ ghost use Rattle.code.specs.Decode.{decode};
 ghost use Rattle.code.specs.Lookups.{locationOf, handlerOf, constantOf, localNameOf};
 ghost use Rattle.api.specs.Answers.{shapeAnswer, netAnswer, deadAnswer, depthAnswer, sizeAnswer, nameAnswer};
 ghost use Rattle.api.specs.Answers.{nameCells, countAnswer};
-ghost use Rattle.api.specs.Checks.{ChecksTold};
+ghost use Rattle.api.specs.Checks.{ChecksTold, ExplainsTold};
 ghost use Rattle.api.specs.Given.{givenOf, effectGiven, afterGiven, flagsGiven, flagsAnswer};
 ghost use Rattle.text.specs.Fitting.{Lists};
 ghost use Rattle.text.specs.Lines.{plainLines, ListsChecked};
@@ -45,6 +45,7 @@ mod cells;
 mod operands;
 mod pairs;
 mod parts;
+mod reasons;
 mod steps;
 mod tables;
 
@@ -241,12 +242,29 @@ pub extern "C" fn tf_write(
 }
 
 #[no_mangle]
-pub extern "C" fn tf_check(code: &[u8], starts: &[u32], depths: &mut [u32]) -> u64
-    ensures { λ r. ⌜ ChecksTold (now (code .entry)) (now (starts .entry)) (now (depths .entry)) r
-        (now (depths .exit)) ⌝ }
+pub extern "C" fn tf_check(code: &[u8], starts: &[u32], depths: &mut [u32], work: &mut [u32]) -> u64
+    ensures { λ r. ⌜ ChecksTold (now (code .entry)) (now (starts .entry)) (now (depths .entry)) (now (depths .exit))
+        (now (work .entry)) (now (work .exit)) r ⌝ }
 {
-    let checked = checker::check(code, starts, depths);
+    let checked = checker::check(code, starts, depths, work);
     answers::of_checked(checked)
+}
+
+#[no_mangle]
+pub extern "C" fn tf_explain(
+    code: &[u8],
+    starts: &[u32],
+    depths: &mut [u32],
+    work: &mut [u32],
+    told: &mut [u64],
+) -> u64
+    ensures { λ r. ⌜ ExplainsTold (now (code .entry)) (now (starts .entry)) (now (depths .entry)) (now (depths .exit))
+        (now (work .entry)) (now (work .exit)) (now (told .entry)) r (now (told .exit)) ⌝ }
+{
+    if told.len() < 4 {
+        return answers::refused(Refusal::Full(Table::Text));
+    }
+    reasons::tell_explained(checker::explain(code, starts, depths, work), told)
 }
 
 #[no_mangle]

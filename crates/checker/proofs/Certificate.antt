@@ -29,6 +29,7 @@ use Rattle.checker.specs.declared.Checked.{Checked}
 use Rattle.checker.specs.declared.Checked.the-variants.{Accepted, Refused}
 use Rattle.checker.specs.Cells.{cell, depthIn, held}
 use Rattle.checker.specs.Promise.{Listed, Solution, Promise}
+use Rattle.checker.specs.Statements.{Same}
 use Rattle.checker.specs.Inner.{NoFault}
 use Rattle.checker.proofs.Holding.{depth-in, in-depth, cell-in}
 use Rattle.checker.proofs.Solutions.{counted}
@@ -142,7 +143,7 @@ module _ (last : ℕ) (s st : List ℕ) (t : T (inputOk last s st)) where
 pub record Certified (last : ℕ) (s st c : List ℕ) : Type 0 where
   pub whole : NoFault last s
   pub listed : Listed last s st
-  pub solution : Solution last s st c (held (take (length s) c))
+  pub solution : Solution last s st c (record { count = held (take (length s) c) })
 
 module _ (last : ℕ) (s st c : List ℕ) (k : ℕ) (input : T (inputOk last s st))
     (size : T (eqb (length c) (suc (length s))))
@@ -233,23 +234,29 @@ certified last s st c k t =
 
 -- so every check of such code answers and leaves just this
 pub must-accept : (last : ℕ) (s st c : List ℕ) (k : ℕ) → T (certificate last s st c k) → length s ≤ 1048576
-    → (d d′ : List ℕ) (r : Checked) → length s < length d → Promise last s st d d′ r
-    → (r ≡ Accepted (held (take (length s) c))) × (d′ ≡ c ++ drop (suc (length s)) d)
-must-accept last s st c k t l d d′ r room P =
+    → (d d′ w w′ : List ℕ) (r : Checked) → length s < length d → length s < length w
+    → Promise last s st d d′ w w′ r
+    → Same r (Accepted (record { count = held (take (length s) c) })) d′ (c ++ drop (suc (length s)) d)
+    w′ (replicate (suc (length s)) 0 ++ drop (suc (length s)) w)
+must-accept last s st c k t l d d′ w w′ r room space P =
     let C = certified last s st c k t in
     let e = c ++ drop (suc (length s)) d in
-    promise-one last s st d d′ e r (Accepted (held (take (length s) c))) P
-    (promise-some last s st d l room (C .whole) (C .listed) e c (held (take (length s) c)) (C .solution) refl)
+    let z = replicate (suc (length s)) 0 ++ drop (suc (length s)) w in
+    promise-one last s st d d′ e w w′ z r (Accepted (record { count = held (take (length s) c) })) P
+    (promise-some last s st d w l room space e z refl (C .whole) (C .listed) c _ (C .solution) refl)
 
 -- two paths of at most k steps bring two depths to one offset
 pub must-refuse : (last : ℕ) (s st : List ℕ) (k o a b : ℕ) → T (inputOk last s st) → T (has o a (reached last s st k))
     → T (has o b (reached last s st k)) → (a ≡ b → ⊥) → length s ≤ 1048576
-    → (d d′ : List ℕ) (r : Checked) → length s < length d → Promise last s st d d′ r
-    → (r ≡ Refused NoDepths) × (d′ ≡ replicate (suc (length s)) 65536 ++ drop (suc (length s)) d)
-must-refuse last s st k o a b t ta tb n l d d′ r room P =
+    → (d d′ w w′ : List ℕ) (r : Checked) → length s < length d → length s < length w
+    → Promise last s st d d′ w w′ r
+    → Same r (Refused NoDepths) d′ (replicate (suc (length s)) 65536 ++ drop (suc (length s)) d)
+    w′ (replicate (suc (length s)) 0 ++ drop (suc (length s)) w)
+must-refuse last s st k o a b t ta tb n l d d′ w w′ r room space P =
     let e = replicate (suc (length s)) 65536 ++ drop (suc (length s)) d in
+    let z = replicate (suc (length s)) 0 ++ drop (suc (length s)) w in
     let D = reached-derived s st k o a (has-in o a (reached last s st k) ta) in
     let G = reached-derived s st k o b (has-in o b (reached last s st k) tb) in
-    promise-one last s st d d′ e r (Refused NoDepths) P
-    (promise-none last s st d l room (input-whole last s st t) (input-listed last s st t) e (clash-depths D G n)
-    refl)
+    promise-one last s st d d′ e w w′ z r (Refused NoDepths) P
+    (promise-none last s st d w l room space e z refl (input-whole last s st t) (input-listed last s st t)
+    (clash-depths D G n) refl)

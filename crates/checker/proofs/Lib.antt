@@ -1,9 +1,10 @@
 pub mod Holding
+pub mod Growing
 pub mod Visiting
-pub mod Sweeping
+pub mod Draining
 pub mod Walking
-pub mod Cleaning
 pub mod Solutions
+pub mod Reasoning
 pub mod Promising
 pub mod Reaching
 pub mod Certificate

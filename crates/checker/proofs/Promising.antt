@@ -4,13 +4,14 @@
 use mathlib.Core.Path.{_≡_, refl, sym, ap, subst, _∙_}
 use mathlib.Core.Bool.{true, false, _&&_}
 use mathlib.Core.List.{List, _++_}
+use mathlib.Core.Logic.{_⊎_, ⊎-elim}
 use mathlib.Core.Option.{Option}
 use Prim.Native.Nat.{ℕ, suc, _+_, _*_, _/_, _≤_, _<_}
 use native.Mathlib.Omega.{arith}
 use native.Mathlib.Decide.{decLe}
 use native.Mathlib.Numerals.{add-one}
 use lib.Dec.{leb}
-use lib.ListN.{length, drop, take, replicate}
+use lib.ListN.{length, drop, take, replicate, take-append-drop}
 use lib.Seq.{ext-getD, length-take-le}
 use borrow.Author.Tests.{leb-true}
 use Rattle.base.proofs.Bools.{and-true, clash}
@@ -23,67 +24,107 @@ use Rattle.code.proofs.Counting.{counts-one}
 use Rattle.code.proofs.Places.{fault-one}
 use Rattle.builder.specs.declared.Builder.{Builder}
 use Rattle.code.specs.Tables.{codeLimit, startCells, within}
+use Rattle.checker.specs.declared.Assignment.{Assignment}
 use Rattle.checker.specs.declared.Checked.{Checked}
 use Rattle.checker.specs.declared.Checked.the-variants.{Accepted, Refused}
+use Rattle.checker.specs.declared.Explained.{Explained}
+use Rattle.checker.specs.declared.Explained.the-variants as E
 use Rattle.checker.specs.Cells.{cell, depthIn}
-use Rattle.checker.specs.Promise.{TooLong, NoRoom, Listed, Astray, Solution, Became, Accepts, Unless, stops}
-use Rattle.checker.specs.Promise.{passes, Promise, builtSound, BuiltPromise}
-use Rattle.checker.specs.Statements.{PromiseOne, BuiltOne}
-use Rattle.checker.specs.Inner.{NoFault, Outcome}
+use Rattle.checker.specs.Promise.{TooLong, NoRoom, Listed, Astray, Solution, Became, Zeroed, Accepts, Unless}
+use Rattle.checker.specs.Promise.{stops, passes, Promise, builtSound, BuiltPromise}
+use Rattle.checker.specs.Reasons.{Explains, answerOf}
+use Rattle.checker.specs.Statements.{Same, PromiseOne, BuiltOne, ExplainOne}
+use Rattle.checker.specs.Inner.{NoFault, Examined}
 use Rattle.checker.proofs.Holding.{depth-in, in-depth}
+use Rattle.checker.proofs.Reasoning.{because-impossible, fault-not}
 
 -- how a check keeps it
 
-module _ (last : ℕ) (s st d : List ℕ) where
-  pub promise-long : 1048576 < length s → Promise last s st d d (Refused TooLarge)
+module _ (last : ℕ) (s st d w : List ℕ) where
+  promise-long : 1048576 < length s → Promise last s st d d w w (Refused TooLarge)
   unfolding Promise
-  promise-long l = stops TooLarge (refl, l) (refl, refl)
+  promise-long l = stops TooLarge (refl, l) (refl, refl, refl)
 
   module _ (short : length s ≤ 1048576) where
     long-not : (q : Refusal) → TooLong s q → ⊥
     long-not q h = omega (arith, h .1)
 
-    pub promise-room : length d ≤ length s → Promise last s st d d (Refused ShortDepths)
+    promise-room : (length d ≤ length s) ⊎ (length w ≤ length s) → Promise last s st d d w w (Refused ShortDepths)
     unfolding Promise
-    promise-room l = passes long-not (stops ShortDepths (refl, l) (refl, refl))
+    promise-room l = passes long-not (stops ShortDepths (refl, l) (refl, refl, refl))
 
-    module _ (room : length s < length d) where
-      room-not : (q : Refusal) → NoRoom s d q → ⊥
-      room-not q h = omega (arith, h .1)
+    module _ (room : length s < length d) (space : length s < length w) where
+      room-not : (q : Refusal) → NoRoom s d w q → ⊥
+      room-not q h = ⊎-elim (λ l. omega arith) (λ l. omega arith) (h .1)
 
-      pub promise-fault : (q : Refusal) → Faulty last s q → Promise last s st d d (Refused q)
-      unfolding Promise
-      promise-fault q f = passes long-not (passes room-not (stops q f (refl, refl)))
-
-      module _ (whole : NoFault last s) where
-        pub promise-starts : (Listed last s st → ⊥) → Promise last s st d d (Refused BadStarts)
+      module _ (d′ w′ : List ℕ) (zeroed : Zeroed s w w′) where
+        promise-fault : (q : Refusal) → Faulty last s q → d′ ≡ d → Promise last s st d d′ w w′ (Refused q)
         unfolding Promise
-        promise-starts n = passes long-not (passes room-not (passes whole (stops BadStarts (refl, n) (refl, refl))))
+        promise-fault q f e = passes long-not (passes room-not (stops q f (refl, e, zeroed)))
 
-        module _ (listed : Listed last s st) where
-          listed-not : (q : Refusal) → Astray last s st q → ⊥
-          listed-not q h = h .1 listed
-
-          pub promise-none : (d′ : List ℕ) → Impossible last s st → Became s d d′ (replicate (suc (length s)) 65536)
-              → Promise last s st d d′ (Refused NoDepths)
+        module _ (whole : NoFault last s) where
+          promise-starts : (q : Refusal) → Astray last s st q → d′ ≡ d → Promise last s st d d′ w w′ (Refused q)
           unfolding Promise
-          promise-none d′ n b =
-              passes long-not (passes room-not (passes whole (passes listed-not (stops NoDepths (refl, n) (refl, b)))))
+          promise-starts q h e = passes long-not (passes room-not (passes whole (stops q h (refl, e, zeroed))))
 
-          pub promise-some : (d′ c : List ℕ) (k : ℕ) → Solution last s st c k → Became s d d′ c
-              → Promise last s st d d′ (Accepted k)
-          unfolding Promise
-          promise-some d′ c k S b = passes long-not (passes room-not (passes whole (passes listed-not
-              (passes (λ q h. h .1 (depthIn c) (S .smallest .assigns)) (record { count = k; cells = c; answer = refl; solution = S; became = b })))))
+          module _ (listed : Listed last s st) where
+            listed-not : (q : Refusal) → Astray last s st q → ⊥
+            listed-not q h = h .1 listed
 
-          -- what the work on the first cells leaves, and the rest of the slice
-          pub promise-work : (c : List ℕ) (r : Checked) → Outcome last s st c r
-              → Promise last s st d (c ++ drop (length s + 1) d) r
-          promise-work c (Accepted k) S = promise-some (c ++ drop (length s + 1) d) c k S (ap (λ (i : ℕ). c ++ drop i d) (add-one (length s)))
-          promise-work c (Refused q) h =
-              subst (λ (x : Refusal). Promise last s st d (c ++ drop (length s + 1) d) (Refused x)) (sym (h .0))
-              (promise-none (c ++ drop (length s + 1) d) (h .1) (ap (λ (x : List ℕ). x ++ drop (length s + 1) d) (h .2) ∙ ap
-              (λ (i : ℕ). replicate (suc (length s)) 65536 ++ drop i d) (add-one (length s))))
+            pub promise-none : Impossible last s st → Became s d d′ (replicate (suc (length s)) 65536)
+                → Promise last s st d d′ w w′ (Refused NoDepths)
+            unfolding Promise
+            promise-none n b = passes long-not (passes room-not (passes whole (passes listed-not
+                (stops NoDepths (refl, n) (refl, b, zeroed)))))
+
+            pub promise-some : (c : List ℕ) (a : Assignment) → Solution last s st c a → Became s d d′ c
+                → Promise last s st d d′ w w′ (Accepted a)
+            unfolding Promise
+            promise-some c a S b = passes long-not (passes room-not (passes whole (passes listed-not
+                (passes (λ q h. h .1 (depthIn c) (S .smallest .assigns))
+                (record { assignment = a; cells = c; answer = refl; solution = S; became = b; zeroed = zeroed })))))
+
+-- and names a reason
+
+module _ (last : ℕ) (s st d w : List ℕ) where
+  pub explained-long : 1048576 < length s → Explains last s st d d w w (E.Refused TooLarge)
+  explained-long l = record { promise = promise-long last s st d w l; reasoned = λ e. clash cc }
+
+  pub explained-room : length s ≤ 1048576 → (length d ≤ length s) ⊎ (length w ≤ length s)
+      → Explains last s st d d w w (E.Refused ShortDepths)
+  explained-room short l = record { promise = promise-room last s st d w short l; reasoned = λ e. clash cc }
+
+  -- what the work on the first cells leaves, and the rest of the slices
+  module _ (short : length s ≤ 1048576) (room : length s < length d) (space : length s < length w) where
+    became : (x c y : List ℕ) → c ≡ y → Became s x (c ++ drop (length s + 1) x) y
+    became x c y e = ap (λ (z : List ℕ). z ++ drop (length s + 1) x) e
+        ∙ ap (λ (i : ℕ). y ++ drop i x) (add-one (length s))
+
+    pub explained-work : (c v : List ℕ) (r : Explained) → Examined last s st (take (length s + 1) d) c r
+        → v ≡ replicate (suc (length s)) 0
+        → Explains last s st d (c ++ drop (length s + 1) d) w (v ++ drop (length s + 1) w) r
+    explained-work c v (E.Accepted a) h z = record {
+      promise = promise-some last s st d w short room space _ _ (became w v _ z) (h .0) (h .1) c a (h .2)
+          (became d c c refl);
+      reasoned = tt;
+    }
+    explained-work c v (E.Unsolved why) h z = record {
+      promise = promise-none last s st d w short room space _ _ (became w v _ z) (h .0) (h .1)
+          (because-impossible why (h .2)) (became d c _ (h .3));
+      reasoned = h .2;
+    }
+    explained-work c v (E.Refused q) h z =
+        let e : c ++ drop (length s + 1) d ≡ d =
+        ap (λ (x : List ℕ). x ++ drop (length s + 1) d) (h .1) ∙ take-append-drop (length s + 1) d in
+        ⊎-elim
+        (λ f. record {
+          promise = promise-fault last s st d w short room space _ _ (became w v _ z) q f e;
+          reasoned = fault-not f;
+        })
+        (λ g. record {
+          promise = promise-starts last s st d w short room space _ _ (became w v _ z) (g .0) q (g .1) e;
+          reasoned = λ n. (let i = g .1 .0 in clash cc);
+        }) (h .0)
 
 -- the lent part has a cell for each offset and the end
 pub part-size : (d : List ℕ) (n : ℕ) → n < length d → length (take (n + 1) d) ≡ suc n
@@ -101,16 +142,16 @@ built-within b cl sl e =
     let rows = leb-true (b .starts) (sl / startCells) (p .1) in
     (leb-true _ _ (q .0), omega arith)
 
-module _ (b : Builder) (s st d : List ℕ) where
-  pub built-unsound : builtSound b (length s) (length st) ≡ false → BuiltPromise b s st d d (Refused Unsound)
+module _ (b : Builder) (s st d w : List ℕ) where
+  pub built-unsound : builtSound b (length s) (length st) ≡ false → BuiltPromise b s st d d w w (Refused Unsound)
   unfolding BuiltPromise
-  built-unsound e = stops Unsound (refl, e) (refl, refl)
+  built-unsound e = stops Unsound (refl, e) (refl, refl, refl)
 
-  pub built-used : builtSound b (length s) (length st) ≡ true → (d′ : List ℕ) (r : Checked)
-      → Promise lastOpcode (take (b .core .code) s) (take (b .starts * startCells) st) d d′ r
-      → BuiltPromise b s st d d′ r
+  pub built-used : builtSound b (length s) (length st) ≡ true → (d′ w′ : List ℕ) (r : Checked)
+      → Promise lastOpcode (take (b .core .code) s) (take (b .starts * startCells) st) d d′ w w′ r
+      → BuiltPromise b s st d d′ w w′ r
   unfolding BuiltPromise
-  built-used e d′ r P = passes (λ q h. let z : _≡_ {A = ℕ} 0 1 = cc (e, h .1) in omega arith) P
+  built-used e d′ w′ r P = passes (λ q h. let z : _≡_ {A = ℕ} 0 1 = cc (e, h .1) in omega arith) P
 
 -- what callers get from it
 
@@ -120,11 +161,11 @@ past : {P A : Refusal → Type 0} {B C : Type 0} → Unless P A B → ((q : Refu
 past (stops q p a) no-way on = no-way q a
 past (passes n b) no-way on = on n b
 
-not-refused : {r : Checked} {k : ℕ} {q : Refusal} → r ≡ Accepted k → r ≡ Refused q → ⊥
-not-refused {r} {k} {q} e h = clash cc
+not-refused : {r : Checked} {a : Assignment} {q : Refusal} → r ≡ Accepted a → r ≡ Refused q → ⊥
+not-refused {r} {a} {q} e h = clash cc
 
-pub accepted : {last : ℕ} {s st d d′ : List ℕ} {r : Checked} {k : ℕ} → Promise last s st d d′ r → r ≡ Accepted k
-    → Accepts last s st d d′ r
+pub accepted : {last : ℕ} {s st d d′ w w′ : List ℕ} {r : Checked} {a : Assignment} → Promise last s st d d′ w w′ r
+    → r ≡ Accepted a → Accepts last s st d d′ w w′ r
 unfolding Promise
 accepted P e =
     past P (λ q a. absurd (not-refused e (a .0))) (λ n P.
@@ -139,13 +180,13 @@ passed (stops q p a) n = absurd (n q p)
 passed (passes m b) n = b
 
 -- past 10, 21, 1, 22 and 20, code is accepted when an assignment exists
-pub accepted-when : {last : ℕ} {s st d d′ : List ℕ} {r : Checked} → Promise last s st d d′ r → length s ≤ 1048576
-    → length s < length d → NoFault last s → Listed last s st
-    → (a : ℕ → Option ℕ) → Assigns last s st a → Accepts last s st d d′ r
+pub accepted-when : {last : ℕ} {s st d d′ w w′ : List ℕ} {r : Checked} → Promise last s st d d′ w w′ r
+    → length s ≤ 1048576 → length s < length d → length s < length w → NoFault last s → Listed last s st
+    → (a : ℕ → Option ℕ) → Assigns last s st a → Accepts last s st d d′ w w′ r
 unfolding Promise
-accepted-when {last} {s} {st} {d} P short room whole listed a A =
-    passed (passed (passed (passed (passed P (long-not last s st d short)) (room-not last s st d short room)) whole)
-    (listed-not last s st d short room whole listed)) (λ q h. h .1 a A)
+accepted-when {last} {s} {st} {d} P short room space whole listed a A =
+    passed (passed (passed (passed (passed P (λ q h. omega (arith, h .1)))
+    (λ q h. ⊎-elim (λ l. omega arith) (λ l. omega arith) (h .1))) whole) (λ q h. h .1 listed)) (λ q h. h .1 a A)
 
 -- equal inputs, equal answers
 
@@ -173,17 +214,21 @@ cell-one a b o e l m = elim (decLe (cell a o) 65535) [
   ]
 ]
 
-module _ {last : ℕ} {s st c e : List ℕ} {k m : ℕ} (A : Solution last s st c k) (B : Solution last s st e m) where
-  pub solution-cells : c ≡ e
-  solution-cells = ext-getD 65536 c e (A .size ∙ sym (B .size))
-      (λ o l. cell-one c e o (smallest-agree (A .smallest) (B .smallest) o) (A .others o) (B .others o))
+module _ {last : ℕ} {s st c e : List ℕ} {a b : Assignment} (A : Solution last s st c a) (B : Solution last s st e b)
+  where
+    solution-cells : c ≡ e
+    solution-cells = ext-getD 65536 c e (A .size ∙ sym (B .size))
+        (λ o l. cell-one c e o (smallest-agree (A .smallest) (B .smallest) o) (A .others o) (B .others o))
 
-  pub solution-count : k ≡ m
-  solution-count = counts-one (smallest-agree (A .smallest) (B .smallest)) (A .count) (B .count)
+    solution-one : a ≡ b
+    solution-one = ap made (counts-one (smallest-agree (A .smallest) (B .smallest)) (A .count) (B .count))
+      where
+        made : ℕ → Assignment
+        made k = record { count = k }
 
 pub promise-one : PromiseOne
 unfolding Promise
-promise-one last s st d d₁ d₂ r₁ r₂ P Q =
+promise-one last s st d d₁ d₂ w w₁ w₂ r₁ r₂ P Q =
     unless-one (λ p q x y. named-one TooLarge p q (x .0) (y .0)) kept
     (unless-one (λ p q x y. named-one ShortDepths p q (x .0) (y .0)) kept
     (unless-one (λ p q x y. fault-one x y) kept
@@ -191,21 +236,27 @@ promise-one last s st d d₁ d₂ r₁ r₂ P Q =
     (unless-one (λ p q x y. named-one NoDepths p q (x .0) (y .0)) kept
     both)))) P Q
   where
-    kept : {x : List ℕ} (q : Refusal) → (r₁ ≡ Refused q) × (d₁ ≡ x) → (r₂ ≡ Refused q) × (d₂ ≡ x)
-        → (r₁ ≡ r₂) × (d₁ ≡ d₂)
-    kept q a b = (a .0 ∙ sym (b .0), a .1 ∙ sym (b .1))
+    kept : {x y : List ℕ} (q : Refusal) → (r₁ ≡ Refused q) × (d₁ ≡ x) × (w₁ ≡ y)
+        → (r₂ ≡ Refused q) × (d₂ ≡ x) × (w₂ ≡ y) → Same r₁ r₂ d₁ d₂ w₁ w₂
+    kept q a b = (a .0 ∙ sym (b .0), a .1 ∙ sym (b .1), a .2 ∙ sym (b .2))
 
-    both : Accepts last s st d d₁ r₁ → Accepts last s st d d₂ r₂ → (r₁ ≡ r₂) × (d₁ ≡ d₂)
+    both : Accepts last s st d d₁ w w₁ r₁ → Accepts last s st d d₂ w w₂ r₂ → Same r₁ r₂ d₁ d₂ w₁ w₂
     both A B =
         let e = solution-cells (A .solution) (B .solution) in
-        let h = solution-count (A .solution) (B .solution) in (
+        let h = solution-one (A .solution) (B .solution) in (
           A .answer ∙ ap Accepted h ∙ sym (B .answer),
           A .became ∙ ap (λ (c : List ℕ). c ++ drop (suc (length s)) d) e
               ∙ sym (B .became),
+          A .zeroed ∙ sym (B .zeroed),
         )
 
 pub built-one : BuiltOne
 unfolding BuiltPromise
-built-one b s st d d₁ d₂ r₁ r₂ P Q =
-    unless-one (λ p q x y. named-one Unsound p q (x .0) (y .0)) (λ q x y. (x .0 ∙ sym (y .0), x .1 ∙ sym (y .1)))
-    (promise-one lastOpcode (take (b .core .code) s) (take (b .starts * startCells) st) d d₁ d₂ r₁ r₂) P Q
+built-one b s st d d₁ d₂ w w₁ w₂ r₁ r₂ P Q =
+    unless-one (λ p q x y. named-one Unsound p q (x .0) (y .0))
+    (λ q x y. (x .0 ∙ sym (y .0), x .1 ∙ sym (y .1), x .2 ∙ sym (y .2)))
+    (promise-one lastOpcode (take (b .core .code) s) (take (b .starts * startCells) st) d d₁ d₂ w w₁ w₂ r₁ r₂) P Q
+
+pub explain-one : ExplainOne
+explain-one last s st d d₁ d₂ w w₁ w₂ r₁ r₂ A B =
+    promise-one last s st d d₁ d₂ w w₁ w₂ (answerOf r₁) (answerOf r₂) (A .promise) (B .promise)

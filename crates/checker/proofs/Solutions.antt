@@ -1,110 +1,30 @@
--- From the parts of the work to the smallest assignment, its cells and its count.
+-- From all that follows from the starts to the smallest assignment and its count.
 -- Assumes nothing.
 use mathlib.Core.Path.{_≡_, refl, sym, ap, subst, _∙_}
 use mathlib.Core.Bool.{Bool, true, false, cond}
 use mathlib.Core.List.{List, [], _∷_, List·Memᴰ, List·Memᴰ·head, List·Memᴰ·tail, List·Memᴰ·cases-cons}
 use mathlib.Core.List.{List·Memᴰ·not-nil}
-use mathlib.Core.Logic.{_⊎_, ⊎-elim, inl, inr}
-use mathlib.Core.Option.{Option, some}
+use mathlib.Core.Logic.{⊎-elim}
+use mathlib.Core.Option.{some}
 use Prim.Native.Nat.{ℕ, zero, suc, _+_, _-_, _≤_, _<_}
 use native.Mathlib.Omega.{arith}
-use native.Mathlib.Decide.{decLe, decLt}
 use native.Mathlib.Nat.{le-of-suc-le-suc, not-suc-le-zero}
 use lib.Dec.{leb}
-use lib.ListN.{length, getD, take, drop, replicate, length-replicate, getD-replicate, List·getD-eq-default}
+use lib.ListN.{length, getD, take, drop}
 use lib.Seq.{length-take-le, getD-take}
 use borrow.Author.Tests.{le-leb, leb-true}
 use Rattle.code.specs.declared.Flow.{Flow}
 use Rattle.code.specs.declared.Flowing.{Flowing}
 use Rattle.code.specs.declared.Flowing.the-variants as F
 use Rattle.code.specs.Flow.{flowOf}
-use Rattle.code.specs.Depths.{Stands, Place, Begins, Kept, Assigns, Impossible, Derived, Rising, Counts}
+use Rattle.code.specs.Depths.{Stands, Place, Assigns, Rising, Counts}
 use Rattle.code.proofs.Assigning.{smallest}
 use Rattle.code.proofs.Counting.{rising-lower}
 use Rattle.code.proofs.Places.{stands-size, ends-over, faulty-at}
 use Rattle.checker.specs.Cells.{cell, depthIn, held}
 use Rattle.checker.specs.Promise.{Solution}
-use Rattle.checker.specs.Inner.{Sound, KeptAt, NoFault, Marked, Placed, Settled, Cleaned}
-use Rattle.checker.proofs.Holding.{depth-in, in-depth, depth-none, depth-same, cell-in}
-use Rattle.checker.proofs.Walking.{marked-sound}
-
-pub cells-none : (n : ℕ) (c : List ℕ) → c ≡ replicate n 65536 → (o : ℕ) → cell c o ≡ 65536
-cells-none n c e o = ap (λ (x : List ℕ). cell x o) e ∙ elim (decLt o n) [
-  | yes l ↦ getD-replicate n o 65536 65536 l
-  | no l ↦ List·getD-eq-default (replicate n 65536) 65536 (omega (arith, length-replicate n (the 65536)))
-]
-  where
-    the : ℕ → ℕ
-    the x = x
-
--- sound and closed: an assignment
-pub closed : {last : ℕ} {s st c : List ℕ} → Sound last s st c → ((o d : ℕ) → Begins st o d → depthIn c o ≡ some d)
-    → ((o : ℕ) → KeptAt last s c o) → Assigns last s st (depthIn c)
-closed {s} {st} {c} S B K = record {
-  places = λ o d h. (let i = in-depth c o d h in (S .place o (λ z. omega arith), i .1));
-  starts = B;
-  kept = λ o d f h e. K o f d h e;
-}
-
-module _ {last : ℕ} {s st c₁ c₂ : List ℕ} {b : Bool} (M : Marked last s c₁) (P : Placed st c₁ c₂ b) where
-  pub stuck-start : b ≡ false → Impossible last s st
-  stuck-start e = P .stuck e last s (marked-sound M)
-
-  module _ {c₃ : List ℕ} {q : Bool} (e : b ≡ true) (Q : Settled last s c₂ c₃ q) where
-    pub stuck-later : q ≡ false → Impossible last s st
-    stuck-later f = Q .stuck f st (P .sound e last s (marked-sound M))
-
-    pub settled-sound : q ≡ true → Sound last s st c₃
-    settled-sound f = Q .sound f st (P .sound e last s (marked-sound M))
-
-    pub settled-assigns : q ≡ true → Assigns last s st (depthIn c₃)
-    settled-assigns f = closed (settled-sound f) (λ o d g. Q .keeps f o d (P .has e o d g)) (Q .kept f)
-
--- the same depths in other cells
-
-module _ {last : ℕ} {s st : List ℕ} {a b : ℕ → Option ℕ} (same : (o : ℕ) → b o ≡ a o) (A : Assigns last s st a) where
-  kept-same : (f : Flow) (o d : ℕ) → Kept a f o d → Kept b f o d
-  kept-same f o d K =
-      let N = K .falls in
-      record {
-        falls = record { depth = N .depth; leads = N .leads; has = λ y. same (o + f .size) ∙ N .has y };
-        jumps = λ j. (let J = K .jumps j in
-            record {
-              target = J .target;
-              depth = J .depth;
-              goes = J .goes;
-              leads = J .leads;
-              has = same (J .target)
-                  ∙ J .has;
-            });
-      }
-
-  pub assigns-same : Assigns last s st b
-  assigns-same = record {
-    places = λ o d h. A .places o d (sym (same o) ∙ h);
-    starts = λ o d h. same o ∙ A .starts o d h;
-    kept = λ o d f h e. kept-same f o d (A .kept o d f (sym (same o) ∙ h) e);
-  }
-
-module _ {c c′ : List ℕ} (B : Cleaned c c′ (length c)) where
-  -- a cell with a depth keeps it, any other becomes 65,536
-  cleaned-cell : (o : ℕ) → ((cell c o ≤ 65535) × (cell c′ o ≡ cell c o)) ⊎ ((65535 < cell c o) × (cell c′ o ≡ 65536))
-  cleaned-cell o = elim (decLe (cell c o) 65535) [
-    | yes g ↦ inl (g, B .has o (cell-in c o (λ e. omega arith)) g)
-    | no g ↦ inr (
-      omega arith,
-      elim (decLt o (length c)) [
-        | yes l ↦ B .hasnt o l (omega arith)
-        | no l ↦ B .above o (omega arith) ∙ List·getD-eq-default c 65536 (omega arith)
-      ],
-    )
-  ]
-
-  pub cleaned-same : (o : ℕ) → depthIn c′ o ≡ depthIn c o
-  cleaned-same o = ⊎-elim (λ h. depth-same c c′ o (h .1)) (λ h. depth-none c′ o (let z = h .1 in omega arith) ∙ sym (depth-none c o (h .0))) (cleaned-cell o)
-
-  pub cleaned-small : (o : ℕ) → cell c′ o ≤ 65536
-  cleaned-small o = ⊎-elim (λ h. omega (arith, h .0, h .1)) (λ h. omega (arith, h .1)) (cleaned-cell o)
+use Rattle.checker.specs.Inner.{NoFault, Reached}
+use Rattle.checker.proofs.Holding.{depth-in, in-depth}
 
 -- the count: the offsets from i on of the cells that hold a depth
 
@@ -210,20 +130,17 @@ module _ {last : ℕ} {s st : List ℕ} (c : List ℕ) (whole : NoFault last s) 
     count = offsets-length 0 (take (length s) c);
   }
 
--- clean cells of a sound assignment are the solution
-pub solution : {last : ℕ} {s st c c′ : List ℕ} → NoFault last s → Sound last s st c → Assigns last s st (depthIn c)
-    → Cleaned c c′ (length c)
-    → (k : ℕ) → length c ≡ suc (length s) → k ≡ held (take (length c - 1) c′) → Solution last s st c′ k
-solution {last} {s} {st} {c} {c′} whole S A B k e h =
+-- all that follows from the starts is the solution
+pub solution : {last : ℕ} {s st c : List ℕ} {n k : ℕ} → NoFault last s → Reached last s st c n
+    → length c ≡ suc (length s) → k ≡ held (take (length c - 1) c)
+    → Solution last s st c (record { count = k })
+solution {last} {s} {c} whole A e h =
     let y : length c - 1 ≡ length s = omega arith in
-    let same = cleaned-same B in
-    let A′ = assigns-same same A in
-    let D : (o d : ℕ) → depthIn c′ o ≡ some d → Derived last s st o d = λ o d g. S .derived o d (sym (same o) ∙ g) in
     record {
-      size = B .size ∙ e;
-      smallest = smallest A′ D;
-      others = cleaned-small B;
-      derived = D;
-      count = subst (λ (x : ℕ). Counts last s (depthIn c′) x) (sym (h ∙ ap (λ (n : ℕ). held (take n c′)) y))
-          (counted c′ whole A′ (B .size ∙ e));
+      size = e;
+      smallest = smallest (A .assigns) (A .sound .derived);
+      others = A .sound .small;
+      derived = A .sound .derived;
+      count = subst (Counts last s (depthIn c)) (sym (h ∙ ap (λ (n : ℕ). held (take n c)) y))
+          (counted c whole (A .assigns) e);
     }

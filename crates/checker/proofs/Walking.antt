@@ -1,34 +1,31 @@
--- What the walks over the code, the marks and the starts show.
+-- What the walks over the code and the starts show.
 -- Assumes nothing.
 use mathlib.Core.Path.{_≡_, refl, sym, ap, subst, _∙_}
 use mathlib.Core.Bool.{true, false, true≢false, false≢true}
 use mathlib.Core.List.{List}
 use mathlib.Core.Logic.{_⊎_, ⊎-elim, inl, inr}
-use mathlib.Core.Option.{some}
-use Prim.Native.Nat.{ℕ, _+_, _*_, _%_, _≤_, _<_}
+use Prim.Native.Nat.{ℕ, suc, _+_, _-_, _*_, _%_, _≤_, _<_}
 use native.Mathlib.Omega.{arith}
 use native.Mathlib.Decide.{decLt}
 use native.Mathlib.Nat.{not-suc-le-zero}
+use lib.Dec.{leb}
 use lib.ListN.{length, drop, getD, set, length-set}
-use borrow.Author.Count.{below-more}
-use Rattle.base.proofs.Bools.{clash}
+use borrow.Author.Tests.{leb-true, leb-false}
 use Rattle.op.specs.declared.Operand.{Operand}
 use Rattle.op.specs.declared.Refusal.{Refusal}
 use Rattle.code.specs.declared.Flow.{Flow}
-use Rattle.code.specs.declared.Flowing.{Flowing}
 use Rattle.code.specs.declared.Flowing.the-variants as F
 use Rattle.code.specs.declared.Step.{Step}
 use Rattle.code.specs.declared.Step.the-variants.{Instr, End, Refused}
-use Rattle.code.specs.Decode.{decode}
+use Rattle.code.specs.Decode.{decode, sizeIn}
 use Rattle.code.specs.Flow.{flowBy, flowOf}
-use Rattle.code.specs.Depths.{Stands, Place, Derived, start}
-use Rattle.code.proofs.Flows.{flow-op, flow-end, flow-refused}
-use Rattle.code.proofs.Places.{stands-size, stands-no-fault, ends-over, place-first, place-next, place-le, gap, between}
+use Rattle.code.specs.Depths.{Stands, Place}
+use Rattle.code.proofs.Moving.{flow-op, flow-end, flow-refused}
+use Rattle.code.proofs.Places.{stands-size, stands-no-fault, ends-over, place-first, place-next, place-le, between}
 use Rattle.code.proofs.Places.{faulty-at, whole-at}
-use Rattle.checker.specs.Cells.{cell, depthIn}
 use Rattle.checker.specs.Promise.{Listed}
-use Rattle.checker.specs.Inner.{Sound, Visited, Sized, stopOf, NoFault, Walked, Marked, Placed}
-use Rattle.checker.proofs.Holding.{cell-set, cell-set-same, cell-set-other, in-depth}
+use Rattle.checker.specs.Inner.{placeMark, Marks, Ready, Sized, stopOf, NoFault, Marked, Walked, StartsTold}
+use Rattle.checker.proofs.Holding.{set-at}
 
 -- sizes
 
@@ -36,20 +33,29 @@ module _ {last : ℕ} {s : List ℕ} {at : ℕ} where
   pub stands-sized : {f : Flow} → Stands last s at f → Sized last s at (f .size)
   stands-sized {f} h = record { stands = λ n. (f, (h, refl)); none = λ y. absurd (omega (arith, stands-size h)) }
 
-  pub sized : (k : ℕ) (o : Operand) (z : ℕ) → decode last at (drop at s) ≡ Instr k o z → Sized last s at z
+  sized : (k : ℕ) (o : Operand) (z : ℕ) → decode last at (drop at s) ≡ Instr k o z → Sized last s at z
   sized k o z e = stands-sized {f = flowBy (at + z) (length s) k o z} (record { is = sym (flow-op last at s k o z e) })
 
-  pub sized-end : decode last at (drop at s) ≡ End → Sized last s at 0
-  sized-end e = record {
-    stands = λ n. absurd (n refl);
-    none = λ y f h. (let i = flow-end last at s e in let j = h .is in clash cc);
-  }
-
-  pub sized-fault : (q : Refusal) → decode last at (drop at s) ≡ Refused q → Sized last s at 0
+  sized-fault : (q : Refusal) → decode last at (drop at s) ≡ Refused q → Sized last s at 0
   sized-fault q e = record {
     stands = λ n. absurd (n refl);
     none = λ y f h. stands-no-fault h (sym (flow-refused last at s q e));
   }
+
+  sized-end : decode last at (drop at s) ≡ End → Sized last s at 0
+  sized-end e = record {
+    stands = λ n. absurd (n refl);
+    none = λ y f h. omega (arith, stands-size h, ends-over last s at (sym (flow-end last at s e)));
+  }
+
+  sized-by : (x : Step) → decode last at (drop at s) ≡ x → Sized last s at (sizeIn x)
+  sized-by (Instr k o z) e = sized k o z e
+  sized-by End e = sized-end e
+  sized-by (Refused q) e = sized-fault q e
+
+  -- the size that the walk goes by
+  pub sized-in-code : {r : ℕ} → r ≡ sizeIn (decode last at (drop at s)) → Sized last s at r
+  sized-in-code e = subst (Sized last s at) (sym e) (sized-by (decode last at (drop at s)) refl)
 
   module _ {z : ℕ} (Z : Sized last s at z) (n : z ≡ 0 → ⊥) where
     pub sized-in : (0 < z) × (at + z ≤ length s)
@@ -62,162 +68,106 @@ module _ {last : ℕ} {s : List ℕ} {at : ℕ} where
     next-after : Place last s at → (o : ℕ) → Place last s o → o < at + z → (o < at) ⊎ (o ≡ at)
     next-after p o q l = let g = Z .stands n in let e = g .1 .1 in between p (g .1 .0) q (omega arith)
 
--- a walk for faults: it is at a place
-
-pub record Walking (last : ℕ) (s : List ℕ) (at : ℕ) : Type 0 where
+-- the walk for faults: it is at a place, and the places before it are marked
+pub record Marking (last : ℕ) (s w : List ℕ) (at : ℕ) : Type 0 where
+  pub size : length w ≡ suc (length s)
   pub here : Place last s at
   pub inside : at ≤ length s
+  pub place : (o : ℕ) → Place last s o → o < at → getD w o 0 ≡ placeMark
+  pub only : (o : ℕ) → (getD w o 0 ≡ 0) ⊎ ((getD w o 0 ≡ placeMark) × Place last s o)
 
-pub walking-none : {last : ℕ} (s : List ℕ) → Walking last s 0
-walking-none s = record { here = place-first; inside = omega arith }
-
-pub walking-on : {last : ℕ} {s : List ℕ} {at z : ℕ} → Walking last s at → Sized last s at z → (z ≡ 0 → ⊥)
-    → Walking last s (at + z)
-walking-on A Z n = record { here = next-place Z n (A .here); inside = sized-in Z n .1 }
-
--- where it comes to the end it met no fault
-pub walked-all : {last : ℕ} {s : List ℕ} {at : ℕ} → Walking last s at → flowOf last at (drop at s) ≡ F.End
-    → NoFault last s
-walked-all A e = whole-at (A .here) e
-
-pub walked : {last : ℕ} {s : List ℕ} {at : ℕ} → Walking last s at → Sized last s at 0 → (x : Step)
-    → decode last at (drop at s) ≡ x → Walked last s (stopOf x)
-walked {last} {s} {at} A Z (Instr k o z) e = absurd (Z .none refl _ (record { is = sym (flow-op last at s k o z e) }))
-walked {last} {s} {at} A Z End e = walked-all A (sym (flow-end last at s e))
-walked {last} {s} {at} A Z (Refused q) e = faulty-at (A .here) (sym (flow-refused last at s q e))
-
--- looking for the place o: it is not passed
-
-pub record Seeking (last : ℕ) (s : List ℕ) (o at : ℕ) : Type 0 where
-  pub here : Place last s at
-  pub ahead : Place last s o → at ≤ o
-
-pub seeking-none : {last : ℕ} (s : List ℕ) (o : ℕ) → Seeking last s o 0
-seeking-none s o = record { here = place-first; ahead = λ p. omega arith }
-
-pub seeking-on : {last : ℕ} {s : List ℕ} {o at z : ℕ} → Seeking last s o at → at < o → Sized last s at z → (z ≡ 0 → ⊥)
-    → Seeking last s o (at + z)
-seeking-on {s} {o} {at} {z} A lo Z n = record {
-  here = next-place Z n (A .here);
-  ahead = λ p. elim (decLt o (at + z)) [
-    | yes l ↦ absurd (⊎-elim (λ y. omega arith) (λ y. omega arith) (next-after Z n (A .here) o p l))
-    | no l ↦
-        omega arith
-  ];
-}
-
-pub seeking-fault : {last : ℕ} {s : List ℕ} {o at z : ℕ} → Seeking last s o at → at < o → Sized last s at z → z ≡ 0
-    → Place last s o → ⊥
-seeking-fault A lo Z e p = let g = gap (A .here) p lo in Z .none e (g .0) (g .1 .0)
-
--- the start list
-pub starts-listed : {last : ℕ} {s st : List ℕ} {k : ℕ} → length st % 2 ≡ 0 → length st ≤ 2 * k + 1
-    → ((j : ℕ) → j < k → (getD st (2 * j + 1) 0 ≤ 65535) × Place last s (getD st (2 * j) 0)) → Listed last s st
-starts-listed e l h = record { even = e; good = λ j g. h j (omega arith) }
-
--- marks
-
--- where no instruction stands, without a fault, is the end
-stopped-by : {last : ℕ} {s : List ℕ} {at : ℕ} → NoFault last s → Place last s at → Sized last s at 0 → (x : Flowing)
-    → flowOf last at (drop at s) ≡ x → length s ≤ at
-stopped-by whole p Z (F.Op f) e = absurd (Z .none refl f (record { is = e }))
-stopped-by {last} {s} {at} whole p Z F.End e = ends-over last s at e
-stopped-by {at} whole p Z (F.Refused q) e = absurd (whole q (faulty-at p e))
-
-pub stopped-over : {last : ℕ} {s : List ℕ} {at z : ℕ} → NoFault last s → Place last s at → Sized last s at z → z ≡ 0
-    → length s ≤ at
-stopped-over {last} {s} {at} whole p Z e =
-    stopped-by whole p (subst (Sized last s at) e Z) (flowOf last at (drop at s)) refl
-
-pub record Marking (last : ℕ) (s c₀ c : List ℕ) (at : ℕ) : Type 0 where
-  pub size : length c ≡ length c₀
-  pub here : Place last s at
-  pub inside : at ≤ length s
-  pub place : (o : ℕ) → Place last s o → o < at → cell c o ≡ 65537
-  pub only : (o : ℕ) → (cell c o ≡ 65536) ⊎ ((cell c o ≡ 65537) × Place last s o)
-
-pub marking-none : {last : ℕ} {s c : List ℕ} → ((o : ℕ) → cell c o ≡ 65536) → Marking last s c c 0
-marking-none h = record {
-  size = refl;
+pub marking-none : {last : ℕ} {s w : List ℕ} → length w ≡ suc (length s) → ((o : ℕ) → getD w o 0 ≡ 0)
+    → Marking last s w 0
+marking-none size h = record {
+  size = size;
   here = place-first;
   inside = omega arith;
   place = λ o p l. absurd (not-suc-le-zero l);
   only = λ o. inl (h o);
 }
 
-module _ {last : ℕ} {s c₀ c : List ℕ} {at : ℕ} (A : Marking last s c₀ c at) (lc : at < length c) where
-  put-only : (o : ℕ) → (cell (set c at 65537) o ≡ 65536) ⊎ ((cell (set c at 65537) o ≡ 65537) × Place last s o)
-  put-only o = cell-set c at 65537 lc (λ x y. (x ≡ 65536) ⊎ ((x ≡ 65537) × Place last s y)) o (inr (refl, A .here))
-      (A .only o)
+module _ {last : ℕ} {s w : List ℕ} {at : ℕ} (A : Marking last s w at) where
+  pub at-inside : at < length w
+  at-inside = omega (arith, A .inside, A .size)
 
-  put-place : (o : ℕ) → Place last s o → (o < at) ⊎ (o ≡ at) → cell (set c at 65537) o ≡ 65537
-  put-place o p k = ⊎-elim (λ l. cell-set-other c at o 65537 (λ z. omega arith) ∙ A .place o p l)
-      (λ z. ap (cell (set c at 65537)) z ∙ cell-set-same c at 65537 lc) k
+  put : (P : ℕ → ℕ → Type 0) (o : ℕ) → P placeMark at → ((o ≡ at → ⊥) → P (getD w o 0) o)
+      → P (getD (set w at placeMark) o 0) o
+  put = set-at w at placeMark 0 at-inside
 
-  pub marking-on : {z : ℕ} → Sized last s at z → (z ≡ 0 → ⊥) → Marking last s c₀ (set c at 65537) (at + z)
+  put-only : (o : ℕ)
+      → (getD (set w at placeMark) o 0 ≡ 0) ⊎ ((getD (set w at placeMark) o 0 ≡ placeMark) × Place last s o)
+  put-only o = put (λ x y. (x ≡ 0) ⊎ ((x ≡ placeMark) × Place last s y)) o (inr (refl, A .here)) (λ n. A .only o)
+
+  put-place : (o : ℕ) → Place last s o → (o < at) ⊎ (o ≡ at) → getD (set w at placeMark) o 0 ≡ placeMark
+  put-place o p k = put (λ x y. x ≡ placeMark) o refl (λ n. ⊎-elim (A .place o p) (λ e. absurd (n e)) k)
+
+  pub marking-on : {z : ℕ} → Sized last s at z → (z ≡ 0 → ⊥) → Marking last s (set w at placeMark) (at + z)
   marking-on Z n = record {
-    size = length-set c at 65537 ∙ A .size;
+    size = length-set w at placeMark ∙ A .size;
     here = next-place Z n (A .here);
     inside = sized-in Z n .1;
     place = λ o p l. put-place o p (next-after Z n (A .here) o p l);
     only = put-only;
   }
 
-  pub marked-all : length s ≤ at → Marked last s (set c at 65537)
-  marked-all l = record {
-    place = λ o p. put-place o p (let h = place-le p in elim (decLt o at)
-        [ yes a ↦ inl a | no a ↦ inr (let i = A .inside in omega arith) ]);
-    only = put-only;
+  -- where the walk comes to the end it met no fault, and marked all places
+  whole : flowOf last at (drop at s) ≡ F.End → NoFault last s × Marked last s (set w at placeMark)
+  whole e = (
+    whole-at (A .here) e,
+    record {
+      place = λ o p. put-place o p (let h = place-le p in elim (decLt o at)
+          [ yes a ↦ inl a | no a ↦ inr (let i = ends-over last s at e in omega (arith, A .inside)) ]);
+      only = put-only;
+    },
+  )
+
+  pub walked : Sized last s at 0 → (x : Step) → decode last at (drop at s) ≡ x
+      → Walked last s (set w at placeMark) (stopOf x)
+  walked Z (Instr k o z) e = absurd (Z .none refl _ (record { is = sym (flow-op last at s k o z e) }))
+  walked Z End e = whole (sym (flow-end last at s e))
+  walked Z (Refused q) e = faulty-at (A .here) (sym (flow-refused last at s q e))
+
+-- marks, as the list finds them
+
+module _ {last : ℕ} {s w : List ℕ} (A : Marked last s w) where
+  pub marked-marks : Marks last s w
+  marked-marks = record {
+    place = λ o p. omega (arith, A .place o p);
+    only = λ o l. ⊎-elim (λ e. absurd (omega arith)) (λ e. e .1) (A .only o);
   }
 
--- marks, as cells in work
-pub marked-sound : {last : ℕ} {s st c : List ℕ} → Marked last s c → Sound last s st c
-marked-sound {s} {st} {c} A = record {
-  small = λ o. ⊎-elim (λ e. omega arith) (λ e. omega (arith, e .0)) (A .only o);
-  marked = λ o p e. omega (arith, A .place o p);
-  place = λ o n. ⊎-elim (λ e. absurd (n e)) (λ e. e .1) (A .only o);
-  derived = λ o d h. (let i = in-depth c o d h in
-      absurd (⊎-elim (λ e. omega arith) (λ e. omega (arith, e .0)) (A .only o)));
-}
-
--- starts
-
-pub record Placing (st c₀ c : List ℕ) (k : ℕ) : Type 0 where
-  pub size : length c ≡ length c₀
-  pub has : (j : ℕ) → j < k → depthIn c (getD st (2 * j) 0) ≡ some (getD st (2 * j + 1) 0)
-  pub sound : (last : ℕ) (s : List ℕ) → Sound last s st c₀ → Sound last s st c
-
-pub placing-none : (st c : List ℕ) → Placing st c c 0
-placing-none st c = record { size = refl; has = λ j l. absurd (not-suc-le-zero l); sound = λ last s S. S }
-
-module _ {st c₀ c c₁ : List ℕ} {k r o d : ℕ} (A : Placing st c₀ c k) (lk : 2 * k + 1 < length st) (eo : o ≡ getD st (2 * k) 0) (ed : d ≡ getD st (2 * k + 1) 0) (B : Visited c c₁ o d r) where
-  from-start : (last : ℕ) (s : List ℕ) → Derived last s st o d
-  from-start last s = start (record { row = k; inside = lk; offset = sym eo; depth = sym ed })
-
-  pub placing-on : (r ≡ 2 → ⊥) → Placing st c₀ c₁ (k + 1)
-  placing-on n =
-      let i = B .step .range in
-      record {
-        size = B .step .size ∙ A .size;
-        has = below-more (λ j. depthIn c₁ (getD st (2 * j) 0) ≡ some (getD st (2 * j + 1) 0)) k
-            (λ j l. B .step .keeps (getD st (2 * j) 0) _ (A .has j l))
-            (ap (depthIn c₁) (sym eo) ∙ B .put (omega arith) ∙ ap some ed);
-        sound = λ last s S. B .follows last s st (A .sound last s S) (from-start last s) .sound (omega arith);
-      }
-
-  pub placed-no : r ≡ 2 → Placed st c₀ c₁ false
-  placed-no e = record {
-    size = B .step .size ∙ A .size;
-    has = λ z. absurd (false≢true z);
-    sound = λ z. absurd (false≢true z);
-    stuck = λ z last s S. B .follows last s st (A .sound last s S) (from-start last s) .stuck e;
+  pub marked-ready : {c : List ℕ} → length w ≡ length c → length c ≤ placeMark → Ready c w 0
+  marked-ready size short = record {
+    size = size;
+    short = short;
+    small = λ j. ⊎-elim (λ e. omega arith) (λ e. omega (arith, e .0)) (A .only j);
+    deep = λ j l. absurd (not-suc-le-zero l);
+    clear = λ j l. ⊎-elim (λ e. omega arith) (λ e. omega (arith, e .0)) (A .only j);
+    light = omega arith;
   }
 
-pub placed-yes : {st c₀ c : List ℕ} {k : ℕ} → Placing st c₀ c k → length st ≤ 2 * k + 1 → Placed st c₀ c true
-placed-yes {st} {c₀} {c} {k} A l = record {
-  size = A .size;
-  has = λ z o d b. sym (ap (depthIn c) (b .offset)) ∙ A .has (b .row) (let h = b .inside in omega arith)
-      ∙ ap some (b .depth);
-  sound = λ z. A .sound;
-  stuck = λ z. absurd (true≢false z);
+-- the start list, by the marks
+
+-- start j is good
+abbrev pub Good : List ℕ → List ℕ → ℕ → Type 0
+Good w st j = (getD st (2 * j + 1) 0 ≤ 65535) × (leb placeMark (getD w (getD st (2 * j) 0) 0) ≡ true)
+
+pub starts-good : {w st : List ℕ} {k : ℕ} → length st % 2 ≡ 0 → length st ≤ 2 * k + 1
+    → ((j : ℕ) → j < k → Good w st j) → StartsTold w st true
+starts-good even l h last s M = record {
+  yes = λ e. record {
+    even = even;
+    good = λ j g. (let i = h j (omega arith) in (i .0, M .only _ (leb-true _ _ (i .1))));
+  };
+  no = λ e. absurd (true≢false e);
 }
+
+pub starts-bad : {w st : List ℕ} → ((last : ℕ) (s : List ℕ) → Marks last s w → Listed last s st → ⊥)
+    → StartsTold w st false
+starts-bad n last s M = record { yes = λ e. absurd (false≢true e); no = λ e L. n last s M L }
+
+pub starts-unmarked : (w st : List ℕ) (k o : ℕ) → 2 * k + 1 < length st → o ≡ getD st (2 * k) 0
+    → leb placeMark (getD w o 0) ≡ false → StartsTold w st false
+starts-unmarked w st k o l e b = starts-bad (λ last s M L.
+    let h = M .place o (subst (Place last s) (sym e) (L .good k l .1)) in
+    omega (arith, leb-false placeMark (getD w o 0) b))

@@ -1,4 +1,5 @@
 pub mod Cells
 pub mod Promise
+pub mod Reasons
 pub mod Inner
 pub mod Statements

@@ -1,10 +1,8 @@
-// Loops over the cells alone.
+// The cells alone.
 ghost use mathlib.Core.Path.{_≡_};
-ghost use Prim.Native.Nat.{_-_, _<_, _≤_};
+ghost use Prim.Native.Nat.{_-_, _<_};
 ghost use lib.ListN.{length, replicate, take};
 ghost use Rattle.checker.specs.Cells.{held};
-ghost use Rattle.checker.specs.Inner.{Tidied, Cleaned};
-use code::NO_DEPTH;
 use code::WORD_MAX;
 
 // Each cell gets one value.
@@ -18,32 +16,14 @@ pub fn fill(cells: &mut [u32], v: u32)
     }
 }
 
-// A cell without a depth becomes 65,536; answers whether it has one.
-fn tidy(cells: &mut [u32], i: usize) -> usize
-    requires { ⌜ i < length (now cells) ⌝ }
-    ensures { λ r. ⌜ Tidied (now (cells .entry)) (now (cells .exit)) i r ⌝ }
+// How many cells before the last hold a depth, of `all` that do.
+pub fn before_last(cells: &[u32], all: usize) -> usize
+    requires { ⌜ (0 < length (now cells)) × (all ≡ held (now cells)) ⌝ }
+    ensures { λ r. ⌜ r ≡ held (take (length (now (cells .entry)) - 1) (now (cells .entry))) ⌝ }
 {
-    let was = cells[i];
-    if was <= WORD_MAX {
-        return 1;
+    let last = cells[cells.len() - 1];
+    if last <= WORD_MAX {
+        return all - 1;
     }
-    cells[i] = NO_DEPTH;
-    0
-}
-
-// All of them; answers how many before the last have a depth.
-pub fn clean(cells: &mut [u32]) -> usize
-    requires { ⌜ 0 < length (now cells) ⌝ }
-    ensures { λ r. ⌜ Cleaned (now (cells .entry)) (now (cells .exit)) (length (now (cells .entry))) × (r ≡ held (take (length (now (cells .entry)) - 1) (now (cells .exit)))) ⌝ }
-{
-    let n = cells.len() - 1;
-    let mut k = 0;
-    let mut i = 0;
-    while i < n {
-        let one = tidy(cells, i);
-        k += one;
-        i += 1;
-    }
-    tidy(cells, n);
-    k
+    all
 }

@@ -1,56 +1,75 @@
 // The whole work on the cells of the code and its end.
 ghost use mathlib.Core.Path.{_≡_};
-ghost use Prim.Native.Nat.{ℕ, suc, _+_, _*_, _<_, _≤_};
-ghost use lib.ListN.{length, getD};
+ghost use Prim.Native.Nat.{suc};
+ghost use lib.ListN.{length, replicate};
 ghost use Rattle.op.specs.Opcodes.{lastOpcode};
-ghost use Rattle.code.specs.Tables.{codeLimit, wordMax};
 ghost use Rattle.checker.specs.Promise.{Listed};
-ghost use Rattle.checker.specs.Inner.{NoFault, Placed, Outcome};
-use crate::Checked;
+ghost use Rattle.checker.specs.Inner.{NoFault, Marked, Fitted, Examined};
+use crate::Assignment;
+use crate::Explained;
+use crate::Walk;
+use crate::Went;
 use crate::cells;
-use crate::sweeps;
-use crate::visits;
+use crate::lists;
 use crate::walks;
 use code::NO_DEPTH;
 use op::Refusal;
 
-// Each start gives its place its depth; answers whether no two differ.
-fn begin(starts: &[u32], cells: &mut [u32]) -> bool
-    requires { ⌜ ((k : ℕ) → 2 * k + 1 < length (now starts) → getD (now starts) (2 * k + 1) 0 ≤ wordMax) ⌝ }
-    ensures { λ r. ⌜ Placed (now (starts .entry)) (now (cells .entry)) (now (cells .exit)) r ⌝ }
+// The smallest assignment and its count, or why there is none.
+fn solve(code: &[u8], starts: &[u32], cells: &mut [u32], work: &mut [u32]) -> Explained
+    requires { ⌜ Fitted (now code) (now cells) (now work) × NoFault lastOpcode (now code)
+        × Marked lastOpcode (now code) (now work) × Listed lastOpcode (now code) (now starts) ⌝ }
+    ensures { λ r. ⌜ Examined lastOpcode (now (code .entry)) (now (starts .entry)) (now (cells .entry))
+        (now (cells .exit)) r ⌝ }
 {
-    let half = starts.len() / 2;
-    let mut k = 0;
-    while k < half {
-        let o = walks::start_offset(starts, k);
-        let d = walks::start_depth(starts, k);
-        let r = visits::visit(cells, o, d);
-        if r == 2 {
-            return false;
+    cells::fill(cells, NO_DEPTH);
+    let came = lists::reach(code, starts, cells, work);
+    match came {
+        Went::Stuck(why) => {
+            cells::fill(cells, NO_DEPTH);
+            Explained::Unsolved(why)
         }
-        k += 1;
+        Went::On(taken) => Explained::Accepted(Assignment {
+            count: cells::before_last(cells, taken),
+        }),
     }
-    true
 }
 
-// The smallest assignment and its count, or 23.
-pub fn solve(code: &[u8], starts: &[u32], cells: &mut [u32]) -> Checked
-    requires { ⌜ (length (now code) ≤ codeLimit) × (length (now cells) ≡ suc (length (now code)))
-        × NoFault lastOpcode (now code) × Listed lastOpcode (now code) (now starts) ⌝ }
-    ensures { λ r. ⌜ Outcome lastOpcode (now (code .entry)) (now (starts .entry)) (now (cells .exit)) r ⌝ }
+// 20, or what the code comes to whose places are marked.
+fn settle(code: &[u8], starts: &[u32], cells: &mut [u32], work: &mut [u32]) -> Explained
+    requires { ⌜ Fitted (now code) (now cells) (now work) × NoFault lastOpcode (now code)
+        × Marked lastOpcode (now code) (now work) ⌝ }
+    ensures { λ r. ⌜ Examined lastOpcode (now (code .entry)) (now (starts .entry)) (now (cells .entry))
+        (now (cells .exit)) r ⌝ }
 {
-    cells::fill(cells, NO_DEPTH);
-    walks::mark(code, cells);
-    let begun = begin(starts, cells);
-    if begun {
-        let done = sweeps::settle(code, cells);
-        if done {
-            let k = cells::clean(cells);
-            return Checked::Accepted(k);
-        }
-        cells::fill(cells, NO_DEPTH);
-        return Checked::Refused(Refusal::NoDepths);
+    let good = walks::starts_fine(work, starts);
+    if good {
+        return solve(code, starts, cells, work);
     }
-    cells::fill(cells, NO_DEPTH);
-    Checked::Refused(Refusal::NoDepths)
+    Explained::Refused(Refusal::BadStarts)
+}
+
+// 1 or 22, or the same of code whose places are not marked yet: the work cells are zeros.
+fn examine(code: &[u8], starts: &[u32], cells: &mut [u32], work: &mut [u32]) -> Explained
+    requires { ⌜ Fitted (now code) (now cells) (now work) × (now work ≡ replicate (suc (length (now code))) 0) ⌝ }
+    ensures { λ r. ⌜ Examined lastOpcode (now (code .entry)) (now (starts .entry)) (now (cells .entry))
+        (now (cells .exit)) r ⌝ }
+{
+    let walked = walks::mark_places(code, work);
+    match walked {
+        Walk::Fault(refusal) => Explained::Refused(refusal),
+        Walk::Whole => settle(code, starts, cells, work),
+    }
+}
+
+// The same with any work cells, which end with zeros.
+pub fn within(code: &[u8], starts: &[u32], cells: &mut [u32], work: &mut [u32]) -> Explained
+    requires { ⌜ Fitted (now code) (now cells) (now work) ⌝ }
+    ensures { λ r. ⌜ Examined lastOpcode (now (code .entry)) (now (starts .entry)) (now (cells .entry))
+        (now (cells .exit)) r × (now (work .exit) ≡ replicate (suc (length (now (code .entry)))) 0) ⌝ }
+{
+    cells::fill(work, 0);
+    let examined = examine(code, starts, cells, work);
+    cells::fill(work, 0);
+    examined
 }

@@ -1,9 +1,16 @@
-// One cell, or what one instruction asks of the cells that it goes to. Each answers 0 where nothing changed, 1 where a cell got a depth,
-// 2 where there can be no assignment; `hop` and `leap` answer 0 too where the cell lies ahead.
+// What one instruction asks of the places that it goes to. A jump's target that gets a depth by it is put on the list;
+// the place behind it stays in hand, since it is visited next.
 ghost use mathlib.Core.Path.{_≡_};
-ghost use Prim.Native.Nat.{_+_, _<_, _≤_, _^_};
+ghost use Prim.Native.Nat.{_+_, _*_, _<_, _≤_};
+ghost use lib.ListN.{length, getD};
 ghost use Rattle.code.specs.Tables.{wordMax};
-ghost use Rattle.checker.specs.Inner.{Touched, Ahead, Landed, Visited, Arrived, Fell, Jumped};
+ghost use Rattle.code.specs.declared.Goal.the-variants.{To};
+ghost use Rattle.checker.specs.declared.Went.the-variants.{On};
+ghost use Rattle.checker.specs.Inner.{placeMark, Ready, inHand, Passes, Asked, Handed, Landed, FellInHand, Jumped, Moved};
+use crate::Passed;
+use crate::Reason;
+use crate::Went;
+use crate::walks;
 use code::Change;
 use code::Flow;
 use code::Goal;
@@ -26,78 +33,123 @@ fn land(d: u32, change: Change) -> u32
     t as u32
 }
 
-// The cell at `o` gets the depth d, if it is a place without one.
-pub fn visit(cells: &mut [u32], o: usize, d: u32) -> u8
-    requires { ⌜ d ≤ wordMax ⌝ }
-    ensures { λ r. ⌜ Visited (now (cells .entry)) (now (cells .exit)) o d r ⌝ }
+// The place `o` is asked to have the depth d: it has it, or it has another, or it gets it and is in hand.
+fn hold(cells: &mut [u32], top: usize, o: usize, d: u32) -> Passed
+    requires { ⌜ (o < length (now cells)) × (d ≤ wordMax) ⌝ }
+    ensures { λ r. ⌜ Handed (now (cells .entry)) (now (cells .exit)) top o d r ⌝ }
 {
-    if cells.len() <= o {
-        return 2;
-    }
     let was = cells[o];
     if was == d {
-        return 0;
+        return Passed::Rests(top);
     }
-    if was == 65537 {
-        cells[o] = d;
-        return 1;
+    if was <= WORD_MAX {
+        return Passed::Stuck(Reason::TwoDepths {
+            place: o,
+            one: was,
+            other: d,
+        });
     }
-    2
+    cells[o] = d;
+    Passed::Holds { top, place: o }
 }
 
-// The cell at `o` gets the depth that a change leads to.
-fn arrive(cells: &mut [u32], o: usize, d: u32, change: Change) -> u8
-    ensures { λ r. ⌜ Arrived (now (cells .entry)) (now (cells .exit)) o d change r
-        × Touched (now (cells .entry)) (now (cells .exit)) o r ⌝ }
+// A place is put on the list.
+fn put(work: &mut [u32], top: usize, o: usize) -> Went
+    requires { ⌜ (top < length (now work)) × (getD (now work) top 0 + o < 2 * placeMark) ⌝ }
+    ensures { λ r. ⌜ (now (work .exit) ≡ inHand (now (work .entry)) top o) × (r ≡ On (top + 1)) ⌝ }
 {
-    let t = land(d, change);
-    if WORD_MAX < t {
-        return 2;
+    let free = work[top];
+    work[top] = free + (o as u32);
+    Went::On(top + 1)
+}
+
+// The same as `hold`, but what would be in hand waits.
+pub fn ask(cells: &mut [u32], work: &mut [u32], top: usize, o: usize, d: u32) -> Went
+    requires { ⌜ Ready (now cells) (now work) top × (o < length (now cells)) × (d ≤ wordMax) ⌝ }
+    ensures { λ r. ⌜ Asked (now (cells .entry)) (now (cells .exit)) (now (work .entry)) (now (work .exit))
+        top o d r ⌝ }
+{
+    let held = hold(cells, top, o, d);
+    match held {
+        Passed::Rests(t) => Went::On(t),
+        Passed::Holds { top: t, place } => put(work, t, place),
+        Passed::Stuck(why) => Went::Stuck(why),
     }
-    visit(cells, o, t)
 }
 
 // Falling through from `at`. The net depth must be in range also where the instruction falls nowhere.
-pub fn fall(cells: &mut [u32], at: usize, d: u32, f: Flow) -> u8
-    requires { ⌜ at + f .size < 2 ^ 63 ⌝ }
-    ensures { λ r. ⌜ Fell f (now (cells .entry)) (now (cells .exit)) at d r ⌝ }
+fn fall(cells: &mut [u32], top: usize, at: usize, d: u32, f: Flow) -> Passed
+    requires { ⌜ at + f .size < length (now cells) ⌝ }
+    ensures { λ r. ⌜ FellInHand f (now (cells .entry)) (now (cells .exit)) top at d r ⌝ }
 {
     let net = f.net;
+    let behind = land(d, net);
+    if WORD_MAX < behind {
+        return Passed::Stuck(Reason::NetOutOfRange { at, depth: d });
+    }
     let falls = f.falls;
     if falls {
         let size = f.size;
-        return arrive(cells, at + size, d, net);
+        return hold(cells, top, at + size, behind);
     }
-    let behind = land(d, net);
-    if WORD_MAX < behind {
-        return 2;
-    }
-    0
+    Passed::Rests(top)
 }
 
-// `arrive` from the instruction at `at`; 0 for 1 where the cell lies ahead of it.
-fn hop(cells: &mut [u32], at: usize, o: usize, d: u32, change: Change) -> u8
-    ensures { λ r. ⌜ Arrived (now (cells .entry)) (now (cells .exit)) o d change r
-        × (r ≡ 0 → Ahead (now (cells .entry)) (now (cells .exit)) at) ⌝ }
+// The taken jump to `t`.
+fn jump(
+    cells: &mut [u32],
+    work: &mut [u32],
+    top: usize,
+    at: usize,
+    d: u32,
+    f: Flow,
+    t: usize,
+) -> Went
+    requires { ⌜ Ready (now cells) (now work) top × (f .goal ≡ To t) ⌝ }
+    ensures { λ r. ⌜ Jumped f (now (cells .entry)) (now (cells .exit)) (now (work .entry)) (now (work .exit))
+        top at d r ⌝ }
 {
-    let r = arrive(cells, o, d, change);
-    if r == 1 {
-        if at < o {
-            return 0;
-        }
+    if !walks::marked(work, t) {
+        return Went::Stuck(Reason::NoPlace { at, depth: d });
     }
-    r
-}
-
-// The taken jump, if the instruction is one; 1 as in `hop`.
-pub fn leap(cells: &mut [u32], at: usize, d: u32, f: Flow) -> u8
-    ensures { λ r. ⌜ Jumped f (now (cells .entry)) (now (cells .exit)) at d r ⌝ }
-{
     let taken = f.taken;
+    let there = land(d, taken);
+    if WORD_MAX < there {
+        return Went::Stuck(Reason::TakenOutOfRange { at, depth: d });
+    }
+    ask(cells, work, top, t, there)
+}
+
+// The same, if the instruction is a jump.
+fn leap(cells: &mut [u32], work: &mut [u32], top: usize, at: usize, d: u32, f: Flow) -> Went
+    requires { ⌜ Ready (now cells) (now work) top ⌝ }
+    ensures { λ r. ⌜ Jumped f (now (cells .entry)) (now (cells .exit)) (now (work .entry)) (now (work .exit))
+        top at d r ⌝ }
+{
     let goal = f.goal;
     match goal {
-        Goal::Nowhere => 0,
-        Goal::To(t) => hop(cells, at, t, d, taken),
-        Goal::Outside => 2,
+        Goal::Nowhere => Went::On(top),
+        Goal::To(t) => jump(cells, work, top, at, d, f, t),
+        Goal::Outside => Went::Stuck(Reason::NoPlace { at, depth: d }),
+    }
+}
+
+// Both ways on from the instruction at `at`.
+pub fn move_on(
+    cells: &mut [u32],
+    work: &mut [u32],
+    top: usize,
+    at: usize,
+    d: u32,
+    f: Flow,
+) -> Passed
+    requires { ⌜ Ready (now cells) (now work) top × (at + f .size < length (now cells)) ⌝ }
+    ensures { λ r. ⌜ Passes (now (work .exit)) (λ x y. Moved f (now (cells .entry)) (now (cells .exit))
+        (now (work .entry)) x top at d y) r ⌝ }
+{
+    let leapt = leap(cells, work, top, at, d, f);
+    match leapt {
+        Went::Stuck(why) => Passed::Stuck(why),
+        Went::On(mid) => fall(cells, mid, at, d, f),
     }
 }

@@ -1,19 +1,19 @@
-// Walks over the code from its first instruction on: faults, instruction starts, the start list.
+// Walks over the code and over the start list.
 ghost use mathlib.Core.Path.{_≡_};
 ghost use Prim.Native.Nat.{ℕ, suc, _+_, _*_, _<_};
+ghost use lib.Dec.{leb};
 ghost use lib.ListN.{length, drop, getD};
 ghost use Rattle.op.specs.Opcodes.{lastOpcode};
 ghost use Rattle.code.specs.Decode.{decode};
-ghost use Rattle.code.specs.Depths.{Place};
-ghost use Rattle.code.specs.Tables.{noDepth};
-ghost use Rattle.checker.specs.Cells.{cell};
-ghost use Rattle.checker.specs.Promise.{Listed};
-ghost use Rattle.checker.specs.Inner.{stopOf, Walked, NoFault, Tells, Marked};
+ghost use Rattle.checker.specs.Inner.{placeMark, stopOf, Walked, StartsTold};
 use crate::Walk;
-use crate::sizes;
 use code::Step;
 use code::WORD_MAX;
 use code::decoder;
+use code::sizes;
+
+// What a work cell holds where a place is: more than any offset, so that it stands beside one.
+pub const PLACE_MARK: u32 = 2097152;
 
 // What a walk that can go no further has met.
 fn stop(code: &[u8], at: usize) -> Walk
@@ -31,12 +31,14 @@ fn stop(code: &[u8], at: usize) -> Walk
     }
 }
 
-// The first fault, if there is one.
-pub fn walk_all(code: &[u8]) -> Walk
-    ensures { λ r. ⌜ Walked lastOpcode (now (code .entry)) r ⌝ }
+// Marks each place in cells of zeros, up to the first fault, if there is one.
+pub fn mark_places(code: &[u8], work: &mut [u32]) -> Walk
+    requires { ⌜ (length (now work) ≡ suc (length (now code))) × ((o : ℕ) → getD (now work) o 0 ≡ 0) ⌝ }
+    ensures { λ r. ⌜ Walked lastOpcode (now (code .entry)) (now (work .exit)) r ⌝ }
 {
     let mut at = 0;
     loop {
+        work[at] = PLACE_MARK;
         let size = sizes::size_at(code, at);
         if size == 0 {
             return stop(code, at);
@@ -45,19 +47,14 @@ pub fn walk_all(code: &[u8]) -> Walk
     }
 }
 
-// Whether an offset is an instruction's start or the end.
-fn is_place(code: &[u8], o: usize) -> bool
-    ensures { λ r. ⌜ Tells r (Place lastOpcode (now (code .entry)) o) ⌝ }
+// Whether an offset is marked.
+pub fn marked(work: &[u32], o: usize) -> bool
+    ensures { λ r. ⌜ r ≡ leb placeMark (getD (now (work .entry)) o 0) ⌝ }
 {
-    let mut at = 0;
-    while at < o {
-        let size = sizes::size_at(code, at);
-        if size == 0 {
-            return false;
-        }
-        at += size;
+    if work.len() <= o {
+        return false;
     }
-    at == o
+    PLACE_MARK <= work[o]
 }
 
 // A u32 as an index.
@@ -83,9 +80,9 @@ pub fn start_depth(starts: &[u32], k: usize) -> u32
     starts[2 * k + 1]
 }
 
-// Whether the start list is one that can be.
-pub fn starts_fine(code: &[u8], starts: &[u32]) -> bool
-    ensures { λ r. ⌜ Tells r (Listed lastOpcode (now (code .entry)) (now (starts .entry))) ⌝ }
+// Whether the start list is one that can be, by the marks.
+pub fn starts_fine(work: &[u32], starts: &[u32]) -> bool
+    ensures { λ r. ⌜ StartsTold (now (work .entry)) (now (starts .entry)) r ⌝ }
 {
     let n = starts.len();
     if n % 2 == 1 {
@@ -97,30 +94,10 @@ pub fn starts_fine(code: &[u8], starts: &[u32]) -> bool
         if WORD_MAX < start_depth(starts, k) {
             return false;
         }
-        let ok = is_place(code, start_offset(starts, k));
-        if ok {
-            k += 1;
-        } else {
+        if !marked(work, start_offset(starts, k)) {
             return false;
         }
+        k += 1;
     }
     true
-}
-
-// Marks each place with 65,537.
-pub fn mark(code: &[u8], cells: &mut [u32])
-    requires { ⌜ (length (now cells) ≡ suc (length (now code))) × ((o : ℕ) → cell (now cells) o ≡ noDepth)
-        × NoFault lastOpcode (now code) ⌝ }
-    ensures { λ _. ⌜ (length (now (cells .exit)) ≡ length (now (cells .entry)))
-        × Marked lastOpcode (now (code .entry)) (now (cells .exit)) ⌝ }
-{
-    let mut at = 0;
-    loop {
-        cells[at] = 65537;
-        let size = sizes::size_at(code, at);
-        if size == 0 {
-            return;
-        }
-        at += size;
-    }
 }

@@ -7,7 +7,7 @@ use Prim.Native.Nat.{ℕ, _+_, _-_, _*_, _<_, _≤_}
 use native.Mathlib.Omega.{arith}
 use lib.Dec.{leb}
 use lib.ListN.{length, getD, take, drop, length-drop, drop-of-length-le}
-use lib.Seq.{drop-drop}
+use lib.Seq.{drop-drop, getD-drop}
 use borrow.Author.Tests.{leb-true, le-leb, lt-leb}
 use Rattle.base.proofs.Bools.{clash}
 use Rattle.op.specs.Opcodes.{lastOpcode, known}
@@ -21,7 +21,7 @@ use Rattle.op.specs.declared.Shaped.the-variants as P
 use Rattle.code.specs.declared.Step.{Step}
 use Rattle.code.specs.declared.Step.the-variants.{Instr, End, Refused}
 use Rattle.code.specs.Decode.{operandIn, namesIn, sizeByNames, stepIn, whole, shapeUpTo, decode, namesBy, namesAt}
-use Rattle.code.proofs.Sizes.{shape-in, size-by-names, fixed-part}
+use Rattle.code.proofs.Operands.{shape-in, size-by-names, fixed-part}
 
 -- shapes under a table
 
@@ -249,3 +249,28 @@ names-in-code last s at k o z n e en =
     let a : at + z - (at + z - 2 * n) ≡ 2 * namesIn o = omega arith in
     let b : at + z - 2 * n ≡ at + sizeOf (operandShape o) 0 = omega (arith, d .base) in
     rw (a, b, ← drop-drop (sizeOf (operandShape o) 0) at s) (sym (names-part last (drop at s) k o z d))
+
+-- the same cases at an offset of the code, by the shape of the opcode there
+
+module _ (s : List ℕ) (at : ℕ) (inside : at < length s) where
+  front : getD (drop at s) 0 0 ≡ getD s at 0
+  front = getD-drop at s 0 0 ∙ ap (λ (i : ℕ). getD s i 0) (let e : at + 0 ≡ at = omega arith in e)
+
+  left : length (drop at s) ≡ length s - at
+  left = length-drop at s
+
+  pub at-unknown : {r : Refusal} → shapeOf (getD s at 0) ≡ P.Refused r
+      → decode lastOpcode at (drop at s) ≡ Refused (UnknownOpcodeAt at)
+  at-unknown {r} e = sym (decode-unknown lastOpcode at (drop at s) (omega (arith, left)) r
+      (shape-last _ ∙ ap shapeOf front ∙ e))
+
+  module _ (x : Shape) (e : shapeOf (getD s at 0) ≡ P.Is x) (z : ℕ) (is : z ≡ sizeByNames x (drop at s)) where
+    shaped : stepIn at x (drop at s) ≡ decode lastOpcode at (drop at s)
+    shaped = decode-shaped lastOpcode at (drop at s) (omega (arith, left)) x (shape-last _ ∙ ap shapeOf front ∙ e)
+
+    pub at-cut : length s - at < z → decode lastOpcode at (drop at s) ≡ Refused (CutShort at)
+    at-cut l = sym (step-cut at x (drop at s) z is (omega (arith, left)) ∙ shaped)
+
+    pub at-whole : z ≤ length s - at → decode lastOpcode at (drop at s) ≡ Instr (getD s at 0) (operandIn x (drop at s)) z
+    at-whole l = sym (ap (λ (k : ℕ). Instr k (operandIn x (drop at s)) z) (sym front)
+        ∙ step-instr at x (drop at s) z is _ refl (omega (arith, left)) ∙ shaped)

@@ -22,7 +22,7 @@ use Rattle.code.specs.Reading.{Instruction, before, instructionsFrom}
 use Rattle.code.proofs.Twos.{signed-unsigned, unsigned-signed}
 use Rattle.code.proofs.Decoding.{Decoded, decoded, decode-whole, names-part}
 use Rattle.code.proofs.Ranges.{word-small}
-use Rattle.code.proofs.Sizes.{size-by-names}
+use Rattle.code.proofs.Operands.{size-by-names}
 use Rattle.code.proofs.Instructions.{instructions-step}
 
 -- lengths

@@ -1,11 +1,11 @@
 pub mod Twos
-pub mod Sizes
+pub mod Operands
 pub mod Decoding
 pub mod Ranges
 pub mod Inverse
 pub mod Stores
 pub mod Writing
-pub mod Flows
+pub mod Moving
 pub mod Instructions
 pub mod Counted
 pub mod First

@@ -22,7 +22,7 @@ use Rattle.code.specs.Flow.{flowingBy, flowOf}
 use Rattle.code.specs.Reading.{Read, placesIn}
 use Rattle.code.specs.Depths.{Stands, Place, Faulty}
 use Rattle.code.proofs.Decoding.{decode-longer, decode-end, decode-past}
-use Rattle.code.proofs.Flows.{flowed, flow-op}
+use Rattle.code.proofs.Moving.{flowed, flow-op}
 use Rattle.code.proofs.Instructions.{readFrom, reads-on, reads-end, reads-fault, read-ind}
 
 -- an instruction has a byte and ends in the code

@@ -74,6 +74,12 @@ unfoldable pub decode : ℕ → ℕ → List ℕ → Step
 decode last at [] = End
 decode last at (k ∷ u) = whole at (shapeUpTo last k) (k ∷ u)
 
+-- the size of the instruction at an offset; 0 where none stands (R14)
+abbrev pub sizeIn : Step → ℕ
+sizeIn (Instr k o size) = size
+sizeIn End = 0
+sizeIn (Refused r) = 0
+
 -- the bytes of the keyword names, the last of an instruction
 abbrev pub namesBy : Step → List ℕ → List ℕ
 namesBy (Instr k o size) u = take (2 * namesIn o) (drop (size - 2 * namesIn o) u)

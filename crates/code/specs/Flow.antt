@@ -50,10 +50,10 @@ changeOf (E.Refused r) = record { up = 0; down = 0 }
 abbrev pub flowBy : ℕ → ℕ → ℕ → Operand → ℕ → Flow
 flowBy next end k o size = record {
   size = size;
-  falls = not (deadMaker k);
   net = changeOf (effectOf k o);
-  goal = goalOf next end o;
   taken = changeOf (takenOf k);
+  goal = goalOf next end o;
+  falls = not (deadMaker k);
 }
 
 -- "its target less the offset of its opcode less 3"

@@ -6,9 +6,12 @@ use op::Refusal;
 
 pub mod decoder;
 pub mod entries;
+pub mod flows;
 pub mod lookups;
+mod numbers;
 pub mod reading;
 pub mod signs;
+pub mod sizes;
 mod steps;
 mod store;
 pub mod writer;
@@ -63,15 +66,16 @@ pub struct Change {
     pub down: u32,
 }
 
-// How the instruction at an offset moves on.
+// How the instruction at an offset moves on. In this order each field begins a word of eight bytes, so that no copy of a
+// flow reads a word across two stores, for which a processor waits.
 pub struct Flow {
     pub size: usize,
-    // whether it falls through
-    pub falls: bool,
     pub net: Change,
-    pub goal: Goal,
     // of the taken jump; no change where it is none
     pub taken: Change,
+    pub goal: Goal,
+    // whether it falls through
+    pub falls: bool,
 }
 
 // The same, or why there is none.

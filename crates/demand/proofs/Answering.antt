@@ -19,6 +19,7 @@ use Rattle.code.specs.Tables.{codeLimit, startCells}
 use Rattle.builder.specs.declared.Builder.{Builder}
 use Rattle.checker.specs.Cells.{cell, depthIn}
 use Rattle.checker.specs.Promise.{Promise, stops, passes, builtSound, BuiltPromise}
+use Rattle.checker.specs.declared.Assignment.{Assignment}
 use Rattle.checker.specs.declared.Checked.{Checked}
 use Rattle.checker.specs.declared.Checked.the-variants as C
 use Rattle.checker.proofs.Holding.{depth-in, in-depth}
@@ -32,6 +33,10 @@ use Rattle.demand.proofs.Machining.{laws}
 use Rattle.demand.proofs.Standing.{code-length, whole}
 use Rattle.demand.proofs.Finish.{depths, assigned, least, derives, listed, counted}
 
+-- an assignment of so many instructions
+abbrev counting : ℕ → Assignment
+counting k = record { count = k }
+
 cell-of : (c : List ℕ) (o : ℕ) (x : Option ℕ) → depthIn c o ≡ x → cell c o ≤ 65536 → cell c o ≡ cellOf x
 cell-of c o (some d) e l = in-depth c o d e .0
 cell-of c o none e l = elim (decLe (cell c o) 65535) [
@@ -41,17 +46,18 @@ cell-of c o none e l = elim (decLe (cell c o) 65535) [
 
 module _ (b : Book isa) (g : Good isa laws b)
     (closed : (r : Row isa) → Mem r (b .rows) → Closed isa laws (r .offset) (r .what)) where
-  checked : b .len ≤ codeLimit → (d d′ : List ℕ) (r : Checked) → b .len < length d
-      → Promise lastOpcode (bytesOf isa (b .rows)) (cells (b .starts)) d d′ r
-      → (r ≡ C.Accepted (length (b .rows))) × ((o : ℕ) → o ≤ b .len → cell d′ o ≡ cellOf (depths b g closed o))
-  checked short d d′ r room P =
+  checked : b .len ≤ codeLimit → (d d′ w w′ : List ℕ) (r : Checked) → b .len < length d → b .len < length w
+      → Promise lastOpcode (bytesOf isa (b .rows)) (cells (b .starts)) d d′ w w′ r
+      → (r ≡ C.Accepted (counting (length (b .rows))))
+      × ((o : ℕ) → o ≤ b .len → cell d′ o ≡ cellOf (depths b g closed o))
+  checked short d d′ w w′ r room space P =
       let z : length (bytesOf isa (b .rows)) ≡ b .len = code-length (b .rows) (b .len) (g .chain) closed in
-      let a = accepted-when P (omega arith) (omega arith) (whole (b .rows) (b .len) (g .chain) closed)
+      let a = accepted-when P (omega arith) (omega arith) (omega arith) (whole (b .rows) (b .len) (g .chain) closed)
       (listed b g closed) (depths b g closed) (assigned b g closed) in
       let c = a .cells in
       let s = a .solution in
       let same = smallest-agree (s .smallest) (least b g closed) in (
-        a .answer ∙ ap C.Accepted (counts-one same (s .count) (counted b g closed)),
+        a .answer ∙ ap (λ (k : ℕ). C.Accepted (counting k)) (counts-one same (s .count) (counted b g closed)),
         λ o l. ap (λ (x : List ℕ). getD x o 65536) (a .became)
             ∙ List·getD-append c (drop (suc (length (bytesOf isa (b .rows)))) d) 65536 o (omega (arith, s .size, z))
             ∙ cell-of c o (depths b g closed o) (same o) (s .others o),
@@ -66,9 +72,9 @@ module _ (b : Book isa) (g : Good isa laws b)
       pub derived-at : (o d : ℕ) → (depthAt isa (b .rows) n (b .cur) o ≡ some d) ↔ Derived lastOpcode s st o d
       derived-at o d = rw (es, et, en) (derives b g closed o d)
 
-      pub checked-at : b .len ≤ codeLimit → (d d′ : List ℕ) (r : Checked) → n < length d
-          → Promise lastOpcode s st d d′ r
-          → (r ≡ C.Accepted (length (b .rows)))
+      pub checked-at : b .len ≤ codeLimit → (d d′ w w′ : List ℕ) (r : Checked) → n < length d → n < length w
+          → Promise lastOpcode s st d d′ w w′ r
+          → (r ≡ C.Accepted (counting (length (b .rows))))
           × ((o : ℕ) → o ≤ n → cell d′ o ≡ cellOf (depthAt isa (b .rows) n (b .cur) o))
       checked-at short = rw (es, et, en) (checked short)
 
@@ -85,13 +91,13 @@ built-sound b s st c l h =
       le-leb (b .starts) (length st / startCells) (omega arith),
     ) refl
 
-pub built-promise : (b : Builder) (s st d d′ : List ℕ) (r : Checked) → b .core .code ≤ length s
+pub built-promise : (b : Builder) (s st d d′ w w′ : List ℕ) (r : Checked) → b .core .code ≤ length s
     → b .core .code ≤ codeLimit
-    → b .starts * startCells ≤ length st → BuiltPromise b s st d d′ r
-    → Promise lastOpcode (take (b .core .code) s) (take (b .starts * startCells) st) d d′ r
+    → b .starts * startCells ≤ length st → BuiltPromise b s st d d′ w w′ r
+    → Promise lastOpcode (take (b .core .code) s) (take (b .starts * startCells) st) d d′ w w′ r
 unfolding BuiltPromise
-built-promise b s st d d′ r c l h (stops q p a) =
+built-promise b s st d d′ w w′ r c l h (stops q p a) =
     let t = built-sound b s st c l h in
     let f = p .1 in
     clash cc
-built-promise b s st d d′ r c l h (passes n P) = P
+built-promise b s st d d′ w w′ r c l h (passes n P) = P

@@ -18,7 +18,7 @@ use Rattle.code.specs.Flow.{goalBy}
 use Rattle.code.specs.declared.Flow.{Flow}
 use Rattle.code.specs.declared.Goal.the-variants.{Nowhere, To}
 use Rattle.code.proofs.Assigning.{derived-in, smallest}
-use Rattle.code.proofs.Flows.{goal-target}
+use Rattle.code.proofs.Moving.{goal-target}
 use Rattle.code.proofs.Places.{stands-one, place-le}
 use Rattle.code.specs.Tables.{jumpSize}
 use Rattle.builder.specs.declared.Depth.the-variants.{Live}

@@ -23,7 +23,7 @@ use Rattle.code.specs.Flow.{flowBy}
 use Rattle.code.specs.Reading.{Instruction, Spot, Read, before, instructionsFrom, instructionsIn, placesIn}
 use Rattle.code.specs.declared.Flow.{Flow}
 use Rattle.code.specs.declared.Step.the-variants.{Instr}
-use Rattle.code.proofs.Flows.{flow-op}
+use Rattle.code.proofs.Moving.{flow-op}
 use Rattle.code.proofs.Inverse.{decode-encode}
 use Rattle.code.proofs.Instructions.{instructions-step}
 use Rattle.code.proofs.Places.{stands-size}

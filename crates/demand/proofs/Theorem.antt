@@ -54,8 +54,9 @@ finish w w′ h i t B =
     let en : length (finished w) ≡ h .end = tied-end (view w) h t in
     let short : h .end ≤ codeLimit =
     omega (arith, B .limit, length-take-le (w .state .core .code) (w .code) (i .code)) in
-    let accepts : (d d′ : List ℕ) (r : Checked) → length (finished w′) < length d
-    → Promise lastOpcode (finished w′) (regionStarts w′) d d′ r → AcceptsAs w′ h r d′ =
+    let accepts : (d d′ v v′ : List ℕ) (r : Checked) → length (finished w′) < length d
+    → length (finished w′) < length v
+    → Promise lastOpcode (finished w′) (regionStarts w′) d d′ v v′ r → AcceptsAs w′ h r d′ =
     rw (B .state, B .code, B .starts)
     (checked-at b g c (finished w) (regionStarts w) (length (finished w)) ec es en short) in
     record {
@@ -69,11 +70,12 @@ finish w w′ h i t B =
           (smallest-at b g c (finished w) (regionStarts w) (length (finished w)) ec es en);
       derived = rw (B .state, B .code, B .starts)
           (derived-at b g c (finished w) (regionStarts w) (length (finished w)) ec es en);
-      checks = λ κs code starts entry exit r k room. accepts (entry .now) (exit .now) r room
-          (rw (code .holds, starts .holds) at k);
-      checks-built = λ κs code starts entry exit r k room.
-          accepts (entry .now) (exit .now) r room (rw (B .state, B .code, B .starts) (
-          built-promise (w .state) (w .code) (w .starts) (entry .now) (exit .now) r (i .code) (B .limit) (i .starts)
+      checks = λ κs code starts entry exit work left r k room space.
+          accepts (entry .now) (exit .now) (work .now) (left .now) r room space (rw (code .holds, starts .holds) at k);
+      checks-built = λ κs code starts entry exit work left r k room space.
+          accepts (entry .now) (exit .now) (work .now) (left .now) r room space (rw (B .state, B .code, B .starts) (
+          built-promise (w .state) (w .code) (w .starts) (entry .now) (exit .now) (work .now) (left .now) r (i .code)
+          (B .limit) (i .starts)
           (rw (code .holds, starts .holds, B .state, B .code, B .starts) at k)));
     }
 

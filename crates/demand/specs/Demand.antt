@@ -71,7 +71,7 @@ cellOf (some d) = d
 -- a check accepts, with these depths in its cells, and counts as many instructions as the history has
 abbrev pub AcceptsAs : World → History → Checked → List ℕ → Type 0
 AcceptsAs w h r checked =
-    (r ≡ C.Accepted (length (h .rows))) × ((o : ℕ) → o ≤ length (finished w) → cell checked o ≡ cellOf (depths w h o))
+    (r ≡ C.Accepted (record { count = length (h .rows) })) × ((o : ℕ) → o ≤ length (finished w) → cell checked o ≡ cellOf (depths w h o))
 
 -- of the world w that the calls left, the world w′ behind `build`, and the history h of the calls
 pub record Demand (w w′ : World) (h : History) : Type 0 where
@@ -91,17 +91,20 @@ pub record Demand (w w′ : World) (h : History) : Type 0 where
   -- from the starts lead to
   pub smallest : Smallest lastOpcode (finished w′) (regionStarts w′) (depths w′ h)
   pub derived : (o d : ℕ) → (depths w′ h o ≡ some d) ↔ Derived lastOpcode (finished w′) (regionStarts w′) o d
-  -- so `check` of those bytes and starts accepts where its cells have room, by its contract
-  pub checks : (κs : Lfts 3) (code : Holding (finished w′)) (starts : Holding (regionStarts w′)) (entry exit : Slice)
-      (r : Checked)
-      → check-says κs (code .slice, (starts .slice, (entry, tt))) r (code .slice, (starts .slice, (exit, tt)))
-      → length (finished w′) < length (entry .now) → AcceptsAs w′ h r (exit .now)
+  -- so `check` of those bytes and starts accepts where its two slices have room, by its contract
+  pub checks : (κs : Lfts 4) (code : Holding (finished w′)) (starts : Holding (regionStarts w′))
+      (entry exit work left : Slice) (r : Checked)
+      → check-says κs (code .slice, (starts .slice, (entry, (work, tt)))) r
+      (code .slice, (starts .slice, (exit, (left, tt))))
+      → length (finished w′) < length (entry .now) → length (finished w′) < length (work .now)
+      → AcceptsAs w′ h r (exit .now)
   -- and so does `check_built` of the builder and its tables
-  pub checks-built : (κs : Lfts 3) (code : Holding (w′ .code)) (starts : Holding (w′ .starts)) (entry exit : Slice)
-      (r : Checked)
-      → check-built-says κs (w′ .state, (code .slice, (starts .slice, (entry, tt)))) r
-      (w′ .state, (code .slice, (starts .slice, (exit, tt))))
-      → length (finished w′) < length (entry .now) → AcceptsAs w′ h r (exit .now)
+  pub checks-built : (κs : Lfts 4) (code : Holding (w′ .code)) (starts : Holding (w′ .starts))
+      (entry exit work left : Slice) (r : Checked)
+      → check-built-says κs (w′ .state, (code .slice, (starts .slice, (entry, (work, tt))))) r
+      (w′ .state, (code .slice, (starts .slice, (exit, (left, tt)))))
+      → length (finished w′) < length (entry .now) → length (finished w′) < length (work .now)
+      → AcceptsAs w′ h r (exit .now)
 
 -- the demand: of every fresh builder, all calls taken from there, and a `build` that is accepted (R59)
 abbrev pub Demanded : Type 0

@@ -34,7 +34,7 @@ unfolding landing effectBy effectOf takenOf deadMaker table known rowOf shapeOf 
     emittingOf enterOf planOf emitCore emitNamed markOf markIn fits markable near bits jumpPlanOf emitJumpOf toPlanOf
     jumpToCore emitJumpToOf markPlanOf patchPlanOf patchJumpOf addConstOf held instructionsFrom readUpTo certificate
 hold = record {
-  a = λ d d′ r room P. must-accept _ code-a from-zero (0 ∷ 1 ∷ 65536 ∷ 65536 ∷ 0 ∷ 65536 ∷ 1 ∷ 0 ∷ 1 ∷ 65536 ∷ []) 6 tt (omega arith) d d′ r room P;
+  a = λ d d′ w w′ r room space P. must-accept _ code-a from-zero (0 ∷ 1 ∷ 65536 ∷ 65536 ∷ 0 ∷ 65536 ∷ 1 ∷ 0 ∷ 1 ∷ 65536 ∷ []) 6 tt (omega arith) d d′ w w′ r room space P;
   b = (refl, λ code n. rw n refl);
   c = λ code n. (rw n refl, rw n refl, refl);
   d = λ code n. (rw n refl, rw n refl, refl);
@@ -44,6 +44,6 @@ hold = record {
   h = (refl, refl, refl, refl, refl, refl, refl, refl);
   i = λ value cells n. (rw n refl, rw n refl, refl);
   j = λ code n. (rw n refl, rw n refl, rw n refl, rw n refl);
-  k = (λ d d′ r room P. must-refuse _ code-k from-zero 2 0 0 1 tt tt tt (λ e. omega arith) (omega arith) d d′ r room P, refl);
-  l = λ d d′ r room P. must-accept _ [] [] (65536 ∷ []) 0 tt (omega arith) d d′ r room P;
+  k = (λ d d′ w w′ r room space P. must-refuse _ code-k from-zero 2 0 0 1 tt tt tt (λ e. omega arith) (omega arith) d d′ w w′ r room space P, refl);
+  l = λ d d′ w w′ r room space P. must-accept _ [] [] (65536 ∷ []) 0 tt (omega arith) d d′ w w′ r room space P;
 }

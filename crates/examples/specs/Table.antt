@@ -4,7 +4,7 @@ use mathlib.Core.Path.{_≡_}
 use mathlib.Core.List.{List, [], _∷_, _++_}
 use Prim.Native.Nat.{ℕ, _%_, _<_}
 use lib.IntN.{ℤ, negsuc}
-use lib.ListN.{length, drop}
+use lib.ListN.{length, drop, replicate}
 use Rattle.op.specs.Opcodes.{lastOpcode, Jump, RaiseUnboundLocal, ForIter, JumpIfTrueOrPop}
 use Rattle.op.specs.Refusals.{numberOf}
 use Rattle.op.specs.declared.Operand.the-variants.{U16, CallKw}
@@ -67,11 +67,18 @@ label-0 = markRow openKind 0 0
 abbrev pub patched-0 : List ℕ
 patched-0 = markRow patchedKind 0 0
 
--- what the check of some bytes with some starts answers, and the depths that it leaves in a slice with room for them
+-- what the check of some bytes with some starts answers, and the depths that it leaves in a slice with room for them;
+-- the work slice ends with zeros
 abbrev pub Checks : List ℕ → List ℕ → Checked → List ℕ → Type 0
 Checks code starts answer depths =
-    (d d′ : List ℕ) (r : Checked) → length code < length d → Promise lastOpcode code starts d d′ r
+    (d d′ w w′ : List ℕ) (r : Checked) → length code < length d → length code < length w
+    → Promise lastOpcode code starts d d′ w w′ r
     → (r ≡ answer) × (d′ ≡ depths ++ drop (length depths) d)
+    × (w′ ≡ replicate (length depths) 0 ++ drop (length depths) w)
+
+-- accepted, and so many instructions have a depth
+abbrev pub accepted : ℕ → Checked
+accepted count = C.Accepted (record { count = count })
 
 -- A's nine bytes
 abbrev pub code-a : List ℕ
@@ -100,7 +107,7 @@ rows = tableOf entries
 -- the twelve (R61)
 pub record Examples : Type 0 where
   -- A: depths 0, 1, 0, 1, 0, 1 at 0, 1, 4, 6, 7, 8; end none; count 6
-  pub a : Checks code-a from-zero (C.Accepted 6) (0 ∷ 1 ∷ 65536 ∷ 65536 ∷ 0 ∷ 65536 ∷ 1 ∷ 0 ∷ 1 ∷ 65536 ∷ [])
+  pub a : Checks code-a from-zero (accepted 6) (0 ∷ 1 ∷ 65536 ∷ 65536 ∷ 0 ∷ 65536 ∷ 1 ∷ 0 ∷ 1 ∷ 65536 ∷ [])
   -- B: jump to its own opcode: -3, FD FF
   pub b : (signed 65536 (bits 0 0) ≡ negsuc 2)
       × ((code : List ℕ) → length code ≡ 3
@@ -155,4 +162,4 @@ pub record Examples : Type 0 where
   pub k : Checks code-k from-zero (C.Refused NoDepths) (65536 ∷ 65536 ∷ 65536 ∷ 65536 ∷ 65536 ∷ [])
       × (numberOf NoDepths ≡ 23)
   -- L: no bytes, no starts: accepted, count 0
-  pub l : Checks [] [] (C.Accepted 0) (65536 ∷ [])
+  pub l : Checks [] [] (accepted 0) (65536 ∷ [])

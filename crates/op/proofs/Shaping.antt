@@ -6,8 +6,7 @@ use mathlib.Core.List.{List, [], _∷_}
 use Prim.Native.Nat.{ℕ, _≤_}
 use lib.ListN.{getD, List·getD-eq-default}
 use Rattle.op.specs.Opcodes.{known, rowOf}
-use Rattle.op.specs.Shapes.{shapeNumber, shapeIn, shapeOf}
-use Rattle.op.specs.Inner.{shapeNo}
+use Rattle.op.specs.Shapes.{shapeNumber, shapeIn, shapeOf, shapeNo}
 use Rattle.op.specs.declared.Refusal.the-variants.{UnknownOpcode}
 use Rattle.op.specs.declared.Shape.{Shape}
 use Rattle.op.specs.declared.Shape.the-variants.{None, U8, I8, U16, Offset, U8U8, U16U8, U16U16, U16U8U8, CallKw, CallAttrKw, U16U16U8}

@@ -16,6 +16,8 @@ use Rattle.op.specs.declared.Deadness.{Deadness}
 use Rattle.op.specs.declared.Deadness.the-variants as D
 use Rattle.op.specs.declared.Effect.{Effect}
 use Rattle.op.specs.declared.Effect.the-variants.{By, Refused}
+use Rattle.op.specs.declared.Fixed.{Fixed}
+use Rattle.op.specs.declared.Fixed.the-variants as F
 use Rattle.op.specs.declared.NetEffect.{NetEffect}
 use Rattle.op.specs.declared.NetEffect.the-variants as N
 use Rattle.op.specs.declared.Operand.{Operand}
@@ -85,6 +87,35 @@ effectOf k o =
     (effectBy (ruleIn (rowOf k)) (formerOf o) (lastOf o))
     (Refused WrongShape))
     (Refused UnknownOpcode)
+
+-- 1, or the effect of an opcode by an operand's former and last number (R8)
+unfoldable pub effectFrom : (k m n : ℕ) → Effect
+effectFrom k m n = cond (known k) (effectBy (ruleIn (rowOf k)) m n) (Refused UnknownOpcode)
+
+-- R8, "The others go by their operand": what a rule's effect is without one
+unfoldable pub fixedBy : Rule → Fixed
+fixedBy minus3 = F.By 0 3
+fixedBy minus2 = F.By 0 2
+fixedBy minus1 = F.By 0 1
+fixedBy same = F.By 0 0
+fixedBy plus1 = F.By 1 0
+fixedBy plus2 = F.By 2 0
+fixedBy minus-n = F.ByOperand
+fixedBy one-minus-n = F.ByOperand
+fixedBy one-minus-2n = F.ByOperand
+fixedBy n-minus-one = F.ByOperand
+fixedBy both = F.ByOperand
+fixedBy minus-both = F.ByOperand
+fixedBy one-minus-both = F.ByOperand
+fixedBy extended = F.ByOperand
+fixedBy format = F.ByOperand
+fixedBy assert = F.ByOperand
+fixedBy assert-failed = F.ByOperand
+fixedBy match-keys = F.ByOperand
+
+-- 1, or what an opcode does whatever its operand (R8)
+unfoldable pub fixedOf : (k : ℕ) → Fixed
+fixedOf k = cond (known k) (fixedBy (ruleIn (rowOf k))) (F.Refused UnknownOpcode)
 
 -- "A jump has two effects, falling through and taken": the taken effects, refusing 1, then 3 (R9)
 unfoldable pub takenOf : ℕ → Effect

@@ -1,16 +1,10 @@
 -- Numbers of our own that op's private functions tell each other: no rule says them, and no reader has to believe them.
 -- Assumes nothing.
-use mathlib.Core.Bool.{cond}
 use mathlib.Core.List.{List, [], _∷_}
 use Prim.Native.Nat.{ℕ}
 use lib.ListN.{getD}
-use Rattle.op.specs.Opcodes.{Rule, minus3, minus2, minus1, same, plus1, plus2, minus-n, one-minus-n, one-minus-2n, n-minus-one, both, minus-both, one-minus-both, extended, format, assert, assert-failed, match-keys, known, rowOf}
+use Rattle.op.specs.Opcodes.{Rule, minus3, minus2, minus1, same, plus1, plus2, minus-n, one-minus-n, one-minus-2n, n-minus-one, both, minus-both, one-minus-both, extended, format, assert, assert-failed, match-keys, rowOf}
 use Rattle.op.specs.Effects.{ruleIn}
-use Rattle.op.specs.Shapes.{shapeNumber, shapeIn}
-
--- the number of an opcode's shape; 12 where there is no such opcode
-unfoldable pub shapeNo : ℕ → ℕ
-shapeNo k = cond (known k) (shapeNumber (shapeIn (rowOf k))) 12
 
 -- the number by which the code knows a rule
 abbrev pub ruleNumber : Rule → ℕ

@@ -49,6 +49,10 @@ operandShape (O.CallKw positional names) = S.CallKw
 operandShape (O.CallAttrKw attribute positional names) = S.CallAttrKw
 operandShape (O.U16U16U8 a b c) = S.U16U16U8
 
+-- the number of an opcode's shape (R3); 12 stands for it where there is no such opcode
+unfoldable pub shapeNo : ℕ → ℕ
+shapeNo k = cond (known k) (shapeNumber (shapeIn (rowOf k))) 12
+
 -- R4, with n keyword names
 unfoldable pub sizeOf : Shape → ℕ → ℕ
 sizeOf S.None n = 1

@@ -1,15 +1,15 @@
 // What instructions do to the depth of the stack.
 ghost use mathlib.Core.Path.{_≡_};
-ghost use Prim.Native.Nat.{_<_};
+ghost use Prim.Native.Nat.{_<_, _-_};
 ghost use Rattle.op.specs.Effects.{effectBy, effectOf, takenOf, netOf, Small, deadMaker, deadnessOf, lastOf};
-ghost use Rattle.op.specs.Effects.{formerOf};
+ghost use Rattle.op.specs.Effects.{formerOf, fixedOf, effectFrom};
 ghost use Rattle.op.specs.Inner.{ruleNo, ruleAt};
 use crate::Deadness;
 use crate::Effect;
+use crate::Fixed;
 use crate::NetEffect;
 use crate::Operand;
 use crate::Refusal;
-use crate::Shaped;
 use crate::opcodes;
 use crate::shapes;
 
@@ -293,14 +293,52 @@ fn former(operand: Operand) -> u32
 pub fn effect(opcode: u8, operand: Operand) -> Effect
     ensures { λ r. ⌜ (r ≡ effectOf opcode operand) × Small r ⌝ }
 {
-    let shaped = shapes::operand_shape(opcode);
-    let Shaped::Is(shape) = shaped else {
+    let shape = shapes::shape_number(opcode);
+    if shape == shapes::NO_SHAPE {
         return Effect::Refused(Refusal::UnknownOpcode);
-    };
-    if shapes::number(shape) != shapes::number(shapes::of_operand(operand)) {
+    }
+    if shape != shapes::number(shapes::of_operand(operand)) {
         return Effect::Refused(Refusal::WrongShape);
     }
     rule_effect(rule_number(opcode), former(operand), last(operand))
+}
+
+// How far `a` is over `b`.
+fn over(a: u8, b: u8) -> u32
+    ensures { λ r. ⌜ r ≡ a - b ⌝ }
+{
+    if a < b {
+        return 0;
+    }
+    (a - b) as u32
+}
+
+// What an opcode does to the depth whatever its operand: refuses 1. The first six rules stand in the order of their
+// effects, so that those are differences: an arm for each would become a chain of tests.
+pub fn fixed(opcode: u8) -> Fixed
+    ensures { λ r. ⌜ r ≡ fixedOf opcode ⌝ }
+{
+    if opcodes::LAST < opcode {
+        return Fixed::Refused(Refusal::UnknownOpcode);
+    }
+    let rule = rule_number(opcode);
+    if PLUS_2 < rule {
+        return Fixed::ByOperand;
+    }
+    Fixed::By {
+        up: over(rule, SAME),
+        down: over(SAME, rule),
+    }
+}
+
+// The effect of an opcode by its operand's former and last number, without the operand: refuses 1.
+pub fn by_numbers(opcode: u8, former: u8, last: u16) -> Effect
+    ensures { λ r. ⌜ (r ≡ effectFrom opcode former last) × Small r ⌝ }
+{
+    if opcodes::LAST < opcode {
+        return Effect::Refused(Refusal::UnknownOpcode);
+    }
+    rule_effect(rule_number(opcode), former as u32, last as u32)
 }
 
 // The effect of a taken jump: refuses 1, then 3.

@@ -137,6 +137,13 @@ pub enum NetEffect {
     Refused(Refusal),
 }
 
+// What an opcode does to the depth whatever its operand, or that it goes by its operand; or 1.
+pub enum Fixed {
+    By { up: u32, down: u32 },
+    ByOperand,
+    Refused(Refusal),
+}
+
 // What the code behind an opcode is, or 1.
 pub enum Deadness {
     Dead,

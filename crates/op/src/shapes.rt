@@ -1,7 +1,6 @@
 // The shapes of operands and the sizes of instructions.
 ghost use mathlib.Core.Path.{_≡_};
-ghost use Rattle.op.specs.Shapes.{shapeNumber, shapeOf, operandShape, sizeOf};
-ghost use Rattle.op.specs.Inner.{shapeNo};
+ghost use Rattle.op.specs.Shapes.{shapeNumber, shapeOf, operandShape, shapeNo, sizeOf};
 use crate::Operand;
 use crate::Refusal;
 use crate::Shape;
@@ -33,9 +32,12 @@ const CALL_ATTR_KW: u8 = 10;
 
 const U16U16U8: u8 = 11;
 
-// The number of an opcode's shape, 12 where there is no such opcode. One arm for each opcode: neighbours joined by `|` would become a
-// chain of range tests.
-fn shape_number(opcode: u8) -> u8
+// Stands for a shape's number where there is no such opcode.
+pub const NO_SHAPE: u8 = 12;
+
+// The number of an opcode's shape, or NO_SHAPE. One arm for each opcode: neighbours joined by `|` would become a chain of
+// range tests.
+pub fn shape_number(opcode: u8) -> u8
     ensures { λ r. ⌜ r ≡ shapeNo opcode ⌝ }
 {
     match opcode {
@@ -170,7 +172,7 @@ fn shape_number(opcode: u8) -> u8
         opcodes::MATCH_ATTR => U8,
         opcodes::SINK_TOP => U8,
         opcodes::RAISE_FROM => NONE,
-        _ => 12,
+        _ => NO_SHAPE,
     }
 }
 

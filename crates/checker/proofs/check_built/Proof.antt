@@ -14,7 +14,7 @@ use Rattle.checker.proofs.check_built.Tie as tie
 
 -- what the call begins with
 abbrev Given : tie.Else1 → tie.Start
-Given c = c .before .before .before .before .before
+Given c = c .before .before .before .before .before .before
 
 -- past the test the counts are sound
 sound : (c : tie.Else1) →
@@ -27,9 +27,9 @@ built-sound-requires c κs = search needs
 
 returns : tie.Need-returns
 returns c =
-    let start = c .before .before .before .before .before in
+    let start = c .before .before .before .before .before .before in
     built-unsound (start .args .built) (start .args .code .now) (start .args .starts .now) (start .args .depths .now)
-    (sym (c .before .built-sound .ensures) ∙ not-true _ (c .if1 .taken))
+    (start .args .work .now) (sym (c .before .built-sound .ensures) ∙ not-true _ (c .if1 .taken))
 
 mul-m : tie.Need-mul-m
 mul-m c =
@@ -52,13 +52,18 @@ check-requires c κs = search needs
 same-length : tie.Need-same-length
 same-length c = search needs
 
+same-length-2 : tie.Need-same-length-2
+same-length-2 c = search needs
+
 returns-2 : tie.Need-returns-2
 returns-2 c =
-    let after-check = c .before .before in
-    let else1 = after-check .before .before .before .before .before .before in
-    let start = else1 .before .before .before .before .before in
+    let after-check = c .before .before .before .before in
+    let after-core = after-check .before .before .before .before .before .before in
+    let else1 = after-core .before in
+    let start = else1 .before .before .before .before .before .before in
     built-used (start .args .built) (start .args .code .now) (start .args .starts .now) (start .args .depths .now)
-    (sound else1) _ _ (after-check .check .ensures)
+    (start .args .work .now) (sound else1) (after-check .check .last .1 .1 .0) (after-check .check .last .1 .1 .1 .0)
+    (after-check .check .result) (after-check .check .ensures)
 
 pub check-built-spec : {M : Type 1} → statement M
 check-built-spec =
@@ -71,4 +76,5 @@ check-built-spec =
     slice-aggregate-check-2
     check-requires
     same-length
+    same-length-2
     returns-2)

@@ -30,6 +30,28 @@ mod c {
             names: *const u16,
             count: usize,
         ) -> u64;
+        pub unsafe fn tf_check(
+            code: *const u8,
+            length: usize,
+            starts: *const u32,
+            start_cells: usize,
+            depths: *mut u32,
+            cells: usize,
+            work: *mut u32,
+            work_cells: usize,
+        ) -> u64;
+        pub unsafe fn tf_explain(
+            code: *const u8,
+            length: usize,
+            starts: *const u32,
+            start_cells: usize,
+            depths: *mut u32,
+            cells: usize,
+            work: *mut u32,
+            work_cells: usize,
+            told: *mut u64,
+            told_cells: usize,
+        ) -> u64;
         pub unsafe fn tf_read_listing(text: *const u8, text_len: usize, code: *mut u8, code_len: usize) -> u64;
         pub unsafe fn tf_location_for_offset(
             rows: *const u32,
@@ -164,6 +186,40 @@ pub fn write(out: &mut [u8], opcode: u8, shape: u8, fields: Fields, names: &[u16
             c,
             names.as_ptr(),
             names.len(),
+        )
+    })
+}
+
+pub fn check(code: &[u8], starts: &[u32], depths: &mut [u32], work: &mut [u32]) -> Answer {
+    // SAFETY: the four slices are as long as is said.
+    Answer(unsafe {
+        c::tf_check(
+            code.as_ptr(),
+            code.len(),
+            starts.as_ptr(),
+            starts.len(),
+            depths.as_mut_ptr(),
+            depths.len(),
+            work.as_mut_ptr(),
+            work.len(),
+        )
+    })
+}
+
+pub fn explain(code: &[u8], starts: &[u32], depths: &mut [u32], work: &mut [u32], told: &mut [u64]) -> Answer {
+    // SAFETY: the five slices are as long as is said.
+    Answer(unsafe {
+        c::tf_explain(
+            code.as_ptr(),
+            code.len(),
+            starts.as_ptr(),
+            starts.len(),
+            depths.as_mut_ptr(),
+            depths.len(),
+            work.as_mut_ptr(),
+            work.len(),
+            told.as_mut_ptr(),
+            told.len(),
         )
     })
 }

@@ -2,7 +2,7 @@
 -- arms no opcode is known.
 -- Assumes nothing.
 use Rattle.op.specs.Opcodes.{known, rowOf, table}
-use Rattle.op.specs.Inner.{shapeNo}
+use Rattle.op.specs.Shapes.{shapeNo}
 use Rattle.base.proofs.Keys.{at}
 use Rattle.op.proofs.Listed.{unknown}
 use Rattle.op.proofs.shapes.shape_number.Statement.{statement}

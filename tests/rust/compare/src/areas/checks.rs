@@ -1,7 +1,8 @@
-//! The depth checker through the program `replay`, beside two checkers written from the rules' text: one that carries
-//! depths along, over random code, whole and damaged; and one that tries every assignment, over all short codes of a few
-//! bytes.
+//! The depth checker through the program `replay` and by itself, beside two checkers written from the rules' text: one that
+//! carries depths along, over random code, whole and damaged; and one that tries every assignment, over all short codes of a
+//! few bytes.
 
+use super::explained::{self, Case};
 use crate::{
     Plan,
     random::Random,
@@ -22,16 +23,19 @@ pub fn run(tally: &mut Tally, plan: &mut Plan) {
     let mut script = Script::default();
     for length in 0..=most {
         each_code(length, &mut |code| {
-            short(tally, &mut script, &decoder, code, length < most)
+            short(tally, plan, &mut script, &decoder, code, length < most)
         });
     }
     script.run(tally, &mut refusals, &program, "short code");
     let mut script = Script::default();
     for _ in 0..plan.amount(60_000, 3_000) {
-        long(&mut script, &mut plan.random);
+        let case = long(&mut plan.random);
+        script.say(line(&mut plan.random, &case));
+        explained::one(tally, &decoder, &mut plan.random, &case);
     }
     edges(&mut script);
     script.run(tally, &mut refusals, &program, "long code");
+    explained::large(tally, &decoder, plan);
     println!("{refusals}");
 }
 
@@ -57,7 +61,7 @@ fn hex(code: &[u8]) -> String {
 }
 
 /// One short code with a few starts; with `search`, also by every assignment.
-fn short(tally: &mut Tally, script: &mut Script, decoder: &Decoder, code: &[u8], search: bool) {
+fn short(tally: &mut Tally, plan: &mut Plan, script: &mut Script, decoder: &Decoder, code: &[u8], search: bool) {
     for starts in [
         vec![],
         vec![0, 0],
@@ -77,11 +81,13 @@ fn short(tally: &mut Tally, script: &mut Script, decoder: &Decoder, code: &[u8],
                 format!("{} {words}: {answer}", hex(code))
             });
         }
+        let code = code.to_vec();
+        explained::one(tally, decoder, &mut plan.random, &Case { code, starts });
     }
 }
 
 /// Random instructions with jumps that often lead to instructions, then perhaps a damaged byte.
-fn long(script: &mut Script, random: &mut Random) {
+fn long(random: &mut Random) -> Case {
     let mut code = Vec::new();
     let mut places = vec![0_u32];
     for _ in 0..random.below(30) {
@@ -104,7 +110,7 @@ fn long(script: &mut Script, random: &mut Random) {
         let at = random.below(code.len());
         code[at] = random.u8();
     }
-    let mut starts = String::new();
+    let mut starts = Vec::new();
     for _ in 0..random.below(4) {
         let place = if random.below(10) == 0 {
             random.below(70) as u32
@@ -116,35 +122,46 @@ fn long(script: &mut Script, random: &mut Random) {
         } else {
             random.below(6)
         };
-        starts += &format!(" {place} {depth}");
+        starts.extend([place, depth as u32]);
     }
-    let line = if random.below(3) == 0 {
-        format!("check_slice {} {}{starts}", code.len() + random.below(6), hex(&code))
+    Case { code, starts }
+}
+
+/// A line that checks a case.
+fn line(random: &mut Random, case: &Case) -> String {
+    let starts: String = case.starts.iter().map(|number| format!(" {number}")).collect();
+    let code = hex(&case.code);
+    if random.below(3) == 0 {
+        let [cells, work] = [(); 2].map(|()| case.code.len() + random.below(6));
+        format!("check_slice {cells} {work} {code}{starts}")
     } else {
-        format!("check {}{starts}", hex(&code))
-    };
-    script.say(line);
+        format!("check {code}{starts}")
+    }
 }
 
 /// The limits of code and slices.
 fn edges(script: &mut Script) {
-    for (bytes, cells) in [
-        (0, 0),
-        (0, 1),
-        (1_000, 1_000),
-        (1_000, 1_001),
-        (131_071, 131_072),
-        (131_072, 131_072),
+    for (bytes, cells, work) in [
+        (0, 0, 0),
+        (0, 0, 1),
+        (0, 1, 0),
+        (0, 1, 1),
+        (1_000, 1_000, 1_001),
+        (1_000, 1_001, 1_000),
+        (1_000, 1_001, 1_001),
+        (131_071, 131_072, 131_072),
+        (131_072, 131_072, 131_073),
+        (131_072, 131_073, 131_072),
     ] {
-        script.say(format!("check_zeros {bytes} {cells}"));
+        script.say(format!("check_zeros {bytes} {cells} {work}"));
     }
     for bytes in [1_048_575, 1_048_576, 1_048_577, 1_048_600, 1_048_601] {
-        script.say(format!("check_zeros {bytes} 131072"));
-        script.say(format!("check_zeros {bytes} {}", bytes + 1));
+        script.say(format!("check_zeros {bytes} 131072 131072"));
+        script.say(format!("check_zeros {bytes} {} {}", bytes + 1, bytes + 1));
     }
-    for cells in [2_000_000, 2_000_001] {
-        script.say(format!("check_zeros 1048576 {cells}"));
-        script.say(format!("check_slice {cells} 0565 0 0"));
+    for (cells, work) in [(2_000_000, 2_000_000), (2_000_001, 2_000_000), (2_000_000, 2_000_001)] {
+        script.say(format!("check_zeros 1048576 {cells} {work}"));
+        script.say(format!("check_slice {cells} {work} 0565 0 0"));
     }
     for line in [
         "check 05 0",

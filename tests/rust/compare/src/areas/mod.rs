@@ -10,6 +10,7 @@ mod decode;
 mod depth_after;
 mod depth_taken;
 mod effect;
+mod explained;
 mod header;
 mod instructions;
 mod left;

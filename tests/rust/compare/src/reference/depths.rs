@@ -21,12 +21,12 @@ pub struct Program {
 }
 
 #[derive(Clone, Copy)]
-struct Instruction {
-    size: usize,
-    net: i64,
-    falls: bool,
+pub struct Instruction {
+    pub size: usize,
+    pub net: i64,
+    pub falls: bool,
     /// The displacement's goal and the taken effect.
-    jump: Option<(i64, i64)>,
+    pub jump: Option<(i64, i64)>,
 }
 
 /// A refusal's number, and the offset that it names.
@@ -49,13 +49,18 @@ impl Program {
         }
     }
 
-    fn is_place(&self, offset: i64) -> bool {
+    /// None inside an instruction, and at the end.
+    pub fn instruction(&self, offset: usize) -> Option<Instruction> {
+        self.at.get(offset).copied().flatten()
+    }
+
+    pub fn is_place(&self, offset: i64) -> bool {
         usize::try_from(offset)
             .is_ok_and(|offset| offset == self.end || self.at.get(offset).is_some_and(Option::is_some))
     }
 
     /// 20.
-    fn starts(&self, starts: &[u32]) -> Result<Vec<(usize, i64)>, Fault> {
+    pub fn starts(&self, starts: &[u32]) -> Result<Vec<(usize, i64)>, Fault> {
         let pairs = starts.chunks(2).map(|start| match *start {
             [offset, depth] if depth <= 65_535 && self.is_place(offset.into()) => Ok((offset as usize, depth.into())),
             _ => Err((20, None)),
@@ -66,10 +71,9 @@ impl Program {
     /// Where an instruction with this depth leads, and with which depths; none where a depth leaves its range or a jump its
     /// places.
     fn leads(&self, offset: usize, depth: i64) -> Option<Vec<(usize, i64)>> {
-        let Some(instruction) = self.at.get(offset).copied().flatten() else {
+        let Some(instruction) = self.instruction(offset) else {
             return Some(Vec::new());
         };
-        let in_range = |depth: i64| (0..=65_535).contains(&depth);
         let net = depth + instruction.net;
         let mut leads = Vec::new();
         if !in_range(net) {
@@ -86,6 +90,10 @@ impl Program {
         }
         Some(leads)
     }
+}
+
+pub fn in_range(depth: i64) -> bool {
+    (0..=65_535).contains(&depth)
 }
 
 fn instruction(cells: &Cells, offset: usize) -> Instruction {

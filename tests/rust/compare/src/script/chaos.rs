@@ -182,8 +182,11 @@ fn given(random: &mut Random) -> String {
         0 => format!("step {hex} {a}"),
         1 => format!("check {hex} {a} {b}"),
         2 => format!("check {hex} 0 0 {a}"),
-        3 => format!("check_slice {} {hex} 0 {b}", random.below(16)),
-        4 => format!("check_zeros {} {}", random.below(9), random.below(9)),
+        3 => format!("check_slice {} {} {hex} 0 {b}", random.below(16), random.below(16)),
+        4 => {
+            let [bytes, cells, work] = [(); 3].map(|()| random.below(9));
+            format!("check_zeros {bytes} {cells} {work}")
+        }
         5 => format!(
             "effect {} {} {} 0 0 0",
             random.below(132),

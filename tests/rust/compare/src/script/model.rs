@@ -696,51 +696,73 @@ impl Model {
         };
         match call.name {
             "check" => {
-                let mut slice = filled(call.bytes.len() + 1);
-                match self.check(&call.bytes, &starts(0), &mut slice) {
-                    Ok(count) => format!("ok {count}{}", joined(slice.iter().copied())),
+                let mut lent = Lent::just(&call.bytes);
+                match self.check(&call.bytes, &starts(0), &mut lent) {
+                    Ok(count) => format!("ok {count}{}", joined(lent.depths.iter().copied())),
                     Err(refusal) => refusal.text(),
                 }
             }
-            "check_slice" => self.check_sum(&call.bytes, &starts(1), filled(call.numbers[0] as usize)),
+            "check_slice" => self.check_sum(&call.bytes, &starts(2), Lent::of(&call.numbers[..2])),
             _ => {
                 let zeros = vec![105; call.numbers[0] as usize];
-                self.check_sum(&zeros, &[], filled(call.numbers[1] as usize))
+                self.check_sum(&zeros, &[], Lent::of(&call.numbers[1..]))
             }
         }
     }
 
-    fn check_sum(&self, code: &[u8], starts: &[u32], mut slice: Vec<u64>) -> String {
-        match self.check(code, starts, &mut slice) {
-            Ok(count) => format!("ok {count} {}", sum(slice)),
-            Err(refusal) => format!("{} {}", refusal.text(), sum(slice)),
-        }
+    fn check_sum(&self, code: &[u8], starts: &[u32], mut lent: Lent) -> String {
+        let answer = match self.check(code, starts, &mut lent) {
+            Ok(count) => format!("ok {count}"),
+            Err(refusal) => refusal.text(),
+        };
+        format!("{answer} {} {}", sum(lent.depths), sum(lent.work))
     }
 
     fn check_here(&self) -> Option<String> {
         let code: Vec<u8> = self.used(CODE)?.iter().map(|&byte| byte as u8).collect();
         let starts: Vec<u32> = self.used(STARTS)?.iter().map(|&cell| cell as u32).collect();
-        let mut slice = filled(code.len() + 1);
-        Some(match self.check(&code, &starts, &mut slice) {
-            Ok(count) => format!("ok {count} {}", sum(slice)),
+        let mut lent = Lent::just(&code);
+        Some(match self.check(&code, &starts, &mut lent) {
+            Ok(count) => format!("ok {count} {}", sum(lent.depths)),
             Err(refusal) => refusal.text(),
         })
     }
 
-    fn check(&self, code: &[u8], starts: &[u32], slice: &mut [u64]) -> Result<usize, Refusal> {
-        let depths = Depths::new(&self.decoder, code, starts, slice.len());
-        let checked = depths.map_err(|(number, offset)| Refusal {
+    fn check(&self, code: &[u8], starts: &[u32], lent: &mut Lent) -> Result<usize, Refusal> {
+        let refused = |(number, offset)| Refusal {
             number,
             table: None,
             offset,
-        })?;
-        let held = checked.held();
-        slice[..=code.len()].copy_from_slice(&held);
-        checked.count().ok_or(Refusal {
-            number: 23,
-            table: None,
-            offset: None,
-        })
+        };
+        let cells = lent.depths.len().min(lent.work.len());
+        let depths = Depths::new(&self.decoder, code, starts, cells);
+        if !matches!(depths, Err((10 | 21, _))) {
+            lent.work[..=code.len()].fill(0);
+        }
+        let checked = depths.map_err(refused)?;
+        lent.depths[..=code.len()].copy_from_slice(&checked.held());
+        checked.count().ok_or_else(|| refused((23, None)))
+    }
+}
+
+/// The slices that a check is lent.
+struct Lent {
+    depths: Vec<u64>,
+    work: Vec<u64>,
+}
+
+impl Lent {
+    /// Of given lengths.
+    fn of(cells: &[i128]) -> Self {
+        Self {
+            depths: filled(cells[0] as usize),
+            work: filled(cells[1] as usize),
+        }
+    }
+
+    /// As long as they have to be.
+    fn just(code: &[u8]) -> Self {
+        Self::of(&[code.len() as i128 + 1; 2])
     }
 }
 

@@ -34,7 +34,7 @@ pub const TABLES: [&str; 7] = [
 /// The most cells of each table.
 const CELLS_MOST: [i128; 7] = [1_048_640, 65_600, 65_600, 65_600, 65_600, 65_600, 65_600];
 
-/// The most cells of a slice of depths, or of code that a listing is read into.
+/// The most cells of a slice of the checker's, or of code that a listing is read into.
 const DEPTHS_MOST: i128 = 2_000_000;
 
 /// Each call with the kinds of its words: b u8, h u16, w u32, q u64, i i8, k 0 or 1, t `dead` or u64, d `dead` or u16,
@@ -91,8 +91,8 @@ const CALLS: [(&str, &str); 58] = [
     ("decode_assert_flags", "b"),
     ("step", "xq"),
     ("check", "xp"),
-    ("check_slice", "cxp"),
-    ("check_zeros", "zc"),
+    ("check_slice", "ccxp"),
+    ("check_zeros", "zcc"),
     ("check_here", ""),
     ("read_listing", "cx"),
     // The rest is read by more than the kinds of its words.

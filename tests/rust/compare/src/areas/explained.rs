@@ -1,0 +1,199 @@
+//! The depth checker called by itself, with slices of any length and content, beside the reference: the answer and every
+//! cell of both slices; and the reason that `tf_explain` tells, held against a search.
+
+use std::fmt;
+
+use crate::{
+    Plan,
+    proved::{self, Answer},
+    random::Random,
+    reference::{
+        Decoder,
+        depths::{Depths, Program},
+        reasons,
+    },
+    tally::{Expected, Tally},
+};
+
+/// In each told cell before the call.
+const FILLING: u64 = 0xa5a5_a5a5_a5a5;
+const CODE_MOST: usize = 1_048_576;
+/// The most bytes and starts of a case that are printed.
+const SHOWN: usize = 120;
+/// So many starts are many.
+const STARTS: usize = 100_000;
+
+/// Code and its starts.
+pub struct Case {
+    pub code: Vec<u8>,
+    pub starts: Vec<u32>,
+}
+
+/// For a printed case: what is short of it.
+impl fmt::Display for Case {
+    fn fmt(&self, f: &mut fmt::Formatter<'_>) -> fmt::Result {
+        let Self { code, starts } = self;
+        if code.len() + starts.len() > SHOWN {
+            return write!(f, "{} bytes with {} starts", code.len(), starts.len() / 2);
+        }
+        for byte in code {
+            write!(f, "{byte:02x}")?;
+        }
+        write!(f, " with the starts {starts:?}")
+    }
+}
+
+/// The answer of a check, and what its slices hold behind it.
+type Left = (Answer, Vec<u32>, Vec<u32>);
+
+/// One case with slices of about the length that is asked for.
+pub fn one(tally: &mut Tally, decoder: &Decoder, random: &mut Random, case: &Case) {
+    let lengths = [(); 2].map(|()| (case.code.len() + 6).saturating_sub(random.below(8)));
+    lent(tally, decoder, random, case, lengths);
+}
+
+/// A case with slices of these lengths, by both functions.
+fn lent(tally: &mut Tally, decoder: &Decoder, random: &mut Random, case: &Case, lengths: [usize; 2]) {
+    let Case { code, starts } = case;
+    let [depths, work] = lengths.map(|length| pattern(random, length));
+    let due = due(decoder, case, depths.clone(), work.clone());
+    let shown = |what: &str| format!("{what} of {case}, lent {lengths:?}");
+    let checked = call(&depths, &work, |depths, work| proved::check(code, starts, depths, work));
+    tally.compare(&checked, Expected::by_text(&due), || shown("tf_check"));
+
+    let mut told = vec![FILLING; [0, 3, 4, 4, 4, 7][random.below(6)]];
+    let explained = call(&depths, &work, |depths, work| {
+        proved::explain(code, starts, depths, work, &mut told)
+    });
+    let due = if told.len() < 4 {
+        (Answer::no_room(), depths, work)
+    } else {
+        due
+    };
+    tally.compare(&explained, Expected::by_text(&due), || shown("tf_explain"));
+    reasoned(tally, decoder, case, explained.0.refusal(), &told);
+}
+
+/// What is told: on 23 a reason that holds, and nothing else.
+fn reasoned(tally: &mut Tally, decoder: &Decoder, case: &Case, refusal: u32, told: &[u64]) {
+    let (reason, kept) = match told.split_first_chunk::<4>() {
+        Some((reason, kept)) if refusal == 23 => (Some(*reason), kept),
+        _ => (None, told),
+    };
+    tally.compare(
+        kept.iter().all(|&cell| cell == FILLING),
+        Expected::by_text(true),
+        || format!("what is told of {case}: {told:?}"),
+    );
+    if let Some(reason) = reason {
+        tally.compare(holds(decoder, case, reason), Expected::by_text(true), || {
+            format!("the reason of {case}: {reason:?}")
+        });
+    }
+}
+
+/// Cells that hold anything, large numbers and small.
+fn pattern(random: &mut Random, length: usize) -> Vec<u32> {
+    let step = random.next() | 1;
+    let shift = random.below(24);
+    (1..=length as u64)
+        .map(|cell| (cell.wrapping_mul(step) >> 32 >> shift) as u32)
+        .collect()
+}
+
+fn call(depths: &[u32], work: &[u32], check: impl FnOnce(&mut [u32], &mut [u32]) -> Answer) -> Left {
+    let (mut depths, mut work) = (depths.to_vec(), work.to_vec());
+    let answer = check(&mut depths, &mut work);
+    (answer, depths, work)
+}
+
+/// What a check has to leave.
+fn due(decoder: &Decoder, case: &Case, mut depths: Vec<u32>, mut work: Vec<u32>) -> Left {
+    let used = case.code.len() + 1;
+    let checked = Depths::new(decoder, &case.code, &case.starts, depths.len().min(work.len()));
+    if !matches!(checked, Err((10 | 21, _))) {
+        work[..used].fill(0);
+    }
+    let answer = match checked {
+        Err((number, offset)) => Answer::naming(number, offset.unwrap_or(0) as u32),
+        Ok(checked) => {
+            for (cell, held) in depths.iter_mut().zip(checked.held()) {
+                *cell = held as u32;
+            }
+            match checked.count() {
+                Some(count) => Answer::accepted(count as i32),
+                None => Answer::refused(23),
+            }
+        }
+    };
+    (answer, depths, work)
+}
+
+fn holds(decoder: &Decoder, case: &Case, reason: reasons::Told) -> bool {
+    let program = Program::read(decoder, &case.code).expect("23 comes behind 1 and 22");
+    let starts = program.starts(&case.starts).expect("23 comes behind 20");
+    reasons::holds(&program, &starts, reason)
+}
+
+/// Long code, and many starts: as much as a check takes, of some shapes less in a quick run.
+pub fn large(tally: &mut Tally, decoder: &Decoder, plan: &mut Plan) {
+    let [most, with_starts] = [1 << 16, 2 * STARTS].map(|sample| plan.amount(CODE_MOST, sample));
+    for case in [
+        chain(CODE_MOST, &[5, 0]),
+        chain(most, &[0, 5]),
+        many_starts(CODE_MOST, 0, true),
+        many_starts(with_starts, 1, true),
+        many_starts(with_starts, 1, false),
+        straight(&[5, 0], most, &[]),
+        straight(&[5, 0], most - 1, &[0]),
+        straight(&[105], most - 1, &[131]),
+        straight(&[105], most - 1, &[88]),
+        straight(&[5], 65_535, &[]),
+        straight(&[5], 65_535, &[5]),
+        straight(&[105], CODE_MOST, &[105]),
+        // Each jumps to the next one, or over it.
+        straight(&[6, 89, 0, 0, 6, 90, 4, 0], most - 8, &[105; 8]),
+        straight(&[6, 89, 0, 0, 6, 90, 4, 0], most - 8, &[5; 8]),
+    ] {
+        let cells = case.code.len() + 1;
+        for lengths in [[cells; 2], [cells - 1, cells + 3], [cells + 3, cells - 1]] {
+            lent(tally, decoder, &mut plan.random, &case, lengths);
+        }
+    }
+}
+
+/// Regions of which each is found from the one behind it alone; the lowest begins with these two bytes.
+fn chain(length: usize, first: &[u8; 2]) -> Case {
+    const REGION: usize = 8;
+    let mut code = [&first[..], &[5, 101, 105, 105, 105, 105]].concat();
+    while code.len() + REGION <= length {
+        // LoadNone, Pop, Nops, and the jump over the two regions.
+        code.extend([5, 0, 105, 105, 105, 88, 0xF0, 0xFF]);
+    }
+    let starts = vec![(code.len() - REGION) as u32, 0];
+    Case { code, starts }
+}
+
+/// Nops with many starts, falling or rising, all of depth 0 but the lowest.
+fn many_starts(length: usize, lowest: u32, falling: bool) -> Case {
+    let offset = |start: usize| (start * (length / STARTS)) as u32;
+    let mut starts: Vec<[u32; 2]> = (0..STARTS).map(|start| [offset(start), 0]).collect();
+    starts[0][1] = lowest;
+    if falling {
+        starts.reverse();
+    }
+    Case {
+        code: vec![105; length],
+        starts: starts.concat(),
+    }
+}
+
+/// Some instructions over and over, as far as they fit, and the last ones.
+fn straight(pattern: &[u8], length: usize, last: &[u8]) -> Case {
+    let mut code = pattern.repeat(length / pattern.len());
+    code.extend(last);
+    Case {
+        code,
+        starts: vec![0, 0],
+    }
+}
