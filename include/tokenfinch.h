@@ -237,18 +237,28 @@ enum { TF_NO_DEPTH = 65536 };
 /* Whether a depth of the stack can be given to each instruction of length bytes of code that the starts lead to,
  * so that all paths meet with the same depth. starts has start_cells numbers: the offset of a start, its depth, and so
  * on. Two arrays of at least length + 1 elements each are lent: depths, which has room elements, and work, which has
- * work_cells. What they hold does not matter. The time is in proportion to the length of the code and of the starts
- * (measured, not proved).
+ * work_cells; and one number, greatest, which can't be null. What they hold does not matter. The time is in proportion
+ * to the length of the code and of the starts (measured, not proved).
  *
  * Value: how many instructions have a depth. The first length + 1 elements of depths then hold the depth before the
  * instruction at each offset, the last of them the depth at the code's end, and TF_NO_DEPTH elsewhere; on 23 they all
  * hold TF_NO_DEPTH, and any other refusal writes nothing there. The first length + 1 elements of work are used by the
  * check and end as 0, accepted or refused; 10 and 21 alone leave them as they were. No later element of the two is ever
  * written.
+ *
+ * The number that greatest points to becomes the greatest of the depths, the end's among them, or 0 where there is
+ * none; a refusal leaves it as it was. It is how much stack an interpreter reserves: no path from a start comes to an
+ * instruction or to the end with more, and where there is a start some path comes with as much. What an instruction
+ * uses while it runs is not in it.
+ *
+ *     uint32_t greatest;
+ *     tf_answer a = tf_check(code, length, starts, 2, depths, length + 1, work, length + 1, &greatest);
+ *     if (tf_refusal(a) == 0) printf("reserve a stack of %u\n", (unsigned)greatest);
+ *
  * Refuses, in this order: 10; 21 where depths or work has fewer than length + 1 elements; 1 or 22 with the offset; 20;
  * 23. */
 tf_answer tf_check(const uint8_t *code, size_t length, const uint32_t *starts, size_t start_cells, uint32_t *depths,
-                   size_t room, uint32_t *work, size_t work_cells);
+                   size_t room, uint32_t *work, size_t work_cells, uint32_t *greatest);
 
 /* What tf_explain writes, by its place in told. */
 enum {
@@ -267,18 +277,21 @@ enum {
     TF_REASON_NO_PLACE = 4            /* the jump's target is no instruction's start and not the code's end */
 };
 
-/* Checks as tf_check does, with the same answer and the same elements of depths and work. On 23 a reason why no depths
- * can be given is written to the first TF_REASON_CELLS elements of told, which has told_room elements; which of several
- * is not promised. Otherwise told stays as it was, and no later element of it is ever written.
+/* Checks as tf_check does, with the same answer, the same elements of depths and work and the same greatest depth. On
+ * 23 a reason why no depths can be given is written to the first TF_REASON_CELLS elements of told, which has told_room
+ * elements; which of several is not promised. Otherwise told stays as it was, and no later element of it is ever
+ * written.
  * Refuses: 18 first of all where told has fewer than TF_REASON_CELLS elements, and then nothing is written; else as
  * tf_check.
  *
  *     uint64_t told[TF_REASON_CELLS];
- *     tf_answer a = tf_explain(code, length, starts, 2, depths, length + 1, work, length + 1, told, TF_REASON_CELLS);
+ *     tf_answer a = tf_explain(code, length, starts, 2, depths, length + 1, work, length + 1, &greatest, told,
+ *                              TF_REASON_CELLS);
  *     if (tf_refusal(a) == TF_NO_DEPTHS) printf("see offset %u\n", (unsigned)told[TF_REASON_OFFSET]);
  */
 tf_answer tf_explain(const uint8_t *code, size_t length, const uint32_t *starts, size_t start_cells, uint32_t *depths,
-                     size_t room, uint32_t *work, size_t work_cells, uint64_t *told, size_t told_room);
+                     size_t room, uint32_t *work, size_t work_cells, uint32_t *greatest, uint64_t *told,
+                     size_t told_room);
 
 /* ---- Listings
  *

@@ -19,6 +19,7 @@ unsafe extern "C" {
         cells: usize,
         work: *mut u32,
         work_cells: usize,
+        greatest: *mut u32,
     ) -> u64;
 }
 
@@ -26,10 +27,11 @@ const NONE: u32 = 65_536;
 const DEPTH_MOST: u32 = 65_535;
 const CODE_MOST: usize = 1_048_576;
 
-/// The proved check, with its two lent slices.
+/// The proved check, with what it is lent.
 pub struct Proved {
     pub depths: Vec<u32>,
     work: Vec<u32>,
+    pub greatest: u32,
 }
 
 impl Proved {
@@ -38,11 +40,12 @@ impl Proved {
         Self {
             depths: cells.clone(),
             work: cells,
+            greatest: 0,
         }
     }
 
     pub fn check(&mut self, Work { code, starts, .. }: &Work) -> u64 {
-        // SAFETY: each pointer is a slice's, beside its length.
+        // SAFETY: each pointer is a slice's, beside its length, or a number's.
         unsafe {
             tf_check(
                 code.as_ptr(),
@@ -53,6 +56,7 @@ impl Proved {
                 self.depths.len(),
                 self.work.as_mut_ptr(),
                 self.work.len(),
+                &mut self.greatest,
             )
         }
     }
@@ -76,9 +80,13 @@ struct Fact {
 /// The same in plain Rust. One walk by a table of sizes marks where instructions start, a byte each, and finds 1 and 22.
 /// Then places are taken off a list, and from each the code is followed as it falls through, without the list: only the
 /// targets of jumps are put on it, when they get their depth. Effects come from the table too, but for the opcodes whose
-/// operand changes it. The lists are made once and cleared first.
+/// operand changes it. The greatest depth is kept along the way, which is quicker than a walk over all depths. The
+/// lists are made once and cleared first.
 pub struct Plain {
     pub depths: Vec<u32>,
+    pub greatest: u32,
+    /// The greatest depth so far.
+    most: u32,
     facts: [Fact; 256],
     places: Vec<bool>,
     waiting: Vec<u32>,
@@ -89,6 +97,8 @@ impl Plain {
         let cells = work.code.len() + 1;
         Self {
             depths: vec![0; cells],
+            greatest: 0,
+            most: 0,
             facts: std::array::from_fn(|byte| fact(byte as u8)),
             places: vec![false; cells],
             waiting: Vec::with_capacity(cells),
@@ -146,8 +156,10 @@ impl Plain {
 
     /// How many instructions get a depth; none where two meet, or one leaves its range.
     fn reach(&mut self, code: &[u8], starts: &[u32]) -> Option<u64> {
+        self.most = 0;
         for start in starts.chunks_exact(2) {
             if arrive(&mut self.depths, start[0] as usize, start[1])? {
+                self.most = start[1].max(self.most);
                 self.waiting.push(start[0]);
             }
         }
@@ -155,12 +167,15 @@ impl Plain {
         while let Some(place) = self.waiting.pop() {
             count += self.follow(code, place as usize)?;
         }
+        self.greatest = self.most;
         Some(count)
     }
 
-    /// Follows the code from a place until it does not fall through, or to where a depth stands.
+    /// Follows the code from a place until it does not fall through, or to where a depth stands. A jump brings no more
+    /// than it stands at, so that falling through alone makes the greatest depth greater.
     fn follow(&mut self, code: &[u8], mut at: usize) -> Option<u64> {
         let mut count = 0;
+        let mut most = self.most;
         while at < code.len() {
             count += 1;
             let depth = self.depths[at];
@@ -178,8 +193,10 @@ impl Plain {
             if !fact.falls || !arrive(&mut self.depths, next, behind)? {
                 break;
             }
+            most = behind.max(most);
             at = next;
         }
+        self.most = most;
         Some(count)
     }
 

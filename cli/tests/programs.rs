@@ -145,7 +145,7 @@ fn a_file_is_checked_again_when_it_changes() {
         assert!(time.parse::<f64>().is_ok(), "{time}");
         verdict.to_owned()
     };
-    assert_eq!(next(), "accepted, 2 instructions with a depth");
+    assert_eq!(next(), "accepted, 2 instructions with a depth, stack 1");
     fs::write(&file, [5, 0, 0]).expect("the rule is changed");
     assert_eq!(
         next(),
@@ -154,8 +154,8 @@ fn a_file_is_checked_again_when_it_changes() {
     // As an editor does that puts a new file in the old one's place.
     fs::remove_file(&file).expect("the rule is removed");
     thread::sleep(Duration::from_millis(250));
-    fs::write(&file, [5, 0, 5, 0]).expect("the rule is there again");
-    assert_eq!(next(), "accepted, 4 instructions with a depth");
+    fs::write(&file, [5, 5, 0, 0]).expect("the rule is there again");
+    assert_eq!(next(), "accepted, 4 instructions with a depth, stack 2");
     drop(watching);
     fs::remove_file(&file).expect("the rule is removed");
 }
@@ -164,7 +164,8 @@ fn a_file_is_checked_again_when_it_changes() {
 fn checks_of_large_code() {
     let longest = rules(&["check", "-"], &vec![105; 1_048_576]);
     assert_eq!(longest.status.code(), Some(0));
-    assert_eq!(longest.stdout.iter().filter(|&&byte| byte == b'\n').count(), 1_048_578);
+    assert_eq!(longest.stdout.iter().filter(|&&byte| byte == b'\n').count(), 1_048_579);
+    assert!(longest.stdout.ends_with(b"\n0\t1048576\tend\t-\t-\nstack 0\n"));
     let longer = rules(&["check", "-"], &vec![105; 1_048_577]);
     assert_eq!(text(&longer.stdout), "refused 10: the code is over 1,048,576 bytes\n");
     assert_eq!(longer.status.code(), Some(1));
@@ -177,11 +178,56 @@ fn starts_lead_elsewhere() {
     assert_eq!(
         text(&output.stdout),
         "depth\toffset\tname\toperands\ttarget\n-\t0\tLoadNone\t-\t-\n-\t1\tReturnValue\t-\t-\n2\t2\tPop\t-\t-\n\
-         1\t3\tReturnValue\t-\t-\n7\t4\tend\t-\t-\n"
+         1\t3\tReturnValue\t-\t-\n7\t4\tend\t-\t-\nstack 7\n"
     );
     let refused = rules(&["check", "-", "9:1"], &code);
     assert!(text(&refused.stdout).starts_with("refused 20: "));
     assert_eq!(refused.status.code(), Some(1));
+}
+
+#[test]
+fn the_stack_is_one_number() {
+    let stack = |words: &[&str], code: &[u8]| {
+        let output = rules(&[&["stack"], words].concat(), code);
+        (
+            output.status.code(),
+            [output.stdout, output.stderr].map(|bytes| text(&bytes).to_owned()),
+        )
+    };
+    let told = |number: &str| (Some(0), [format!("{number}\n"), String::new()]);
+    for (rule, number) in [("nine-bytes", "1"), ("brake", "2")] {
+        let file = repository(&format!("examples/{rule}.rule"));
+        assert_eq!(
+            stack(&[file.to_str().expect("a plain path")], b""),
+            told(number),
+            "{rule}"
+        );
+    }
+    let up_and_down = [5, 5, 0, 0];
+    for (starts, number) in [
+        (&[][..], "2"),
+        (&["0:7"], "9"),
+        (&["0:0", "4:0"], "2"),
+        (&["4:65535"], "65535"),
+    ] {
+        assert_eq!(
+            stack(&[&["-"], starts].concat(), &up_and_down),
+            told(number),
+            "{starts:?}"
+        );
+    }
+    assert_eq!(stack(&["-"], b""), told("0"));
+}
+
+#[test]
+fn a_refused_stack_is_told_as_a_check() {
+    for rule in ["brake-broken", "keyword-calls", "cut-short"] {
+        let code = fs::read(repository(&format!("examples/{rule}.rule"))).expect("the rule is there");
+        let [checked, stack] = ["check", "stack"].map(|command| rules(&[command, "-"], &code));
+        assert_eq!((stack.status.code(), stack.stdout), (Some(1), vec![]), "{rule}");
+        assert_eq!(text(&stack.stderr), text(&checked.stdout), "{rule}");
+        assert!(text(&stack.stderr).starts_with("refused 2"), "{rule}");
+    }
 }
 
 #[test]
@@ -214,6 +260,10 @@ fn what_is_no_good_is_one_line_and_status_2() {
         &["check", "--watch", "-"],
         &["check", "--watch", "no-such-file"],
         &["check", "--watch", folder],
+        &["stack"],
+        &["stack", "no-such-file"],
+        &["stack", folder],
+        &["stack", "-", "0"],
         &["compile"],
         &["compile", "no-such-file"],
         &["compile", folder],

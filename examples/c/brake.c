@@ -56,6 +56,7 @@ int main(void)
 {
     uint8_t code[32];
     uint32_t marks[2 * TF_MARK_CELLS], starts[TF_START_CELLS], depths[COUNT(code) + 1], work[COUNT(code) + 1];
+    uint32_t greatest;
     uint64_t constants[2];
     tf_builder b = {
         .code = code, .code_length = COUNT(code),
@@ -67,12 +68,13 @@ int main(void)
     tf_answer built = build_brake(&b, 0);
     size_t length = tf_current_offset(&b);
     tf_answer checked = tf_check(code, length, starts, (size_t)b.state.starts * TF_START_CELLS, depths, COUNT(depths),
-                                 work, COUNT(work));
+                                 work, COUNT(work), &greatest);
     if (built != 0 || tf_refusal(checked) != 0) {
         printf("brake: refused by %u\n", (unsigned)tf_refusal(built != 0 ? built : checked));
         return 1;
     }
-    printf("the brake rule: %zu bytes, %d instructions\n", length, (int)tf_value(checked));
+    printf("the brake rule: %zu bytes, %d instructions, a stack of %u\n", length, (int)tf_value(checked),
+           (unsigned)greatest);
     print_listing(code, length, depths);
 
     tf_answer broken = build_brake(&b, 1);

@@ -1,5 +1,6 @@
 /* Checks the depths of compiled code and prints its listing with a depth in front of each line: the depth of the
- * stack before the instruction, `-` where no path from a start leads to it. The last line is the code's end.
+ * stack before the instruction, `-` where no path from a start leads to it. Behind the line of the code's end stands
+ * how much stack the code needs.
  *
  * Usage: check FILE [OFFSET:DEPTH ..]        (`-` reads standard input; without starts: 0:0)
  * Exit status: 0 where depths can be given, 1 where the code is refused, 2 where the words or the file are no good. */
@@ -72,11 +73,13 @@ static int check(const uint8_t *code, size_t length, const uint32_t *starts, siz
                  uint32_t *work)
 {
     uint64_t told[TF_REASON_CELLS];
-    tf_answer answer = tf_explain(code, length, starts, count, depths, length + 1, work, length + 1, told,
+    uint32_t greatest;
+    tf_answer answer = tf_explain(code, length, starts, count, depths, length + 1, work, length + 1, &greatest, told,
                                   TF_REASON_CELLS);
     uint32_t refusal = tf_refusal(answer);
     if (refusal == 0) {
         print_all(code, length, depths);
+        printf("stack %u\n", (unsigned)greatest);
         return 0;
     }
     if (refusal == TF_UNKNOWN_OPCODE || refusal == TF_CUT_SHORT)

@@ -63,7 +63,7 @@ static void brake(const uint8_t *rule, size_t length)
 {
     static const uint32_t starts[] = {0, 0}, depths[] = {0, 1, 0, 1, 0, 1, 2, 1};
     static const size_t places[] = {0, 1, 4, 7, 10, 13, 14, 15};
-    uint32_t depth[65], work[65];
+    uint32_t depth[65], work[65], greatest = 9;
     tf_label dry = {TF_DEAD}, join = {TF_DEAD};
     uint16_t wet_limit = 9, dry_limit = 9;
     begin(0);
@@ -88,7 +88,8 @@ static void brake(const uint8_t *rule, size_t length)
     report("its start", b.state.starts == 1 && memcmp(b.starts, starts, sizeof starts) == 0);
     report("and no other", blank_from(TF_TABLE_STARTS, TF_START_CELLS));
     report("its constants", b.state.constants == 2 && b.constants[0] == 41 && b.constants[1] == 27);
-    report("it checks", tf_check(b.code, 16, b.starts, 2, depth, 65, work, 65) == 8);
+    report("it checks", tf_check(b.code, 16, b.starts, 2, depth, 65, work, 65, &greatest) == 8);
+    report("its stack", greatest == 2);
     for (size_t i = 0; i < sizeof places / sizeof places[0]; i++)
         report("its depths", depth[places[i]] == depths[i]);
 }

@@ -176,12 +176,13 @@ static void writing(void)
 }
 
 /* What a check is lent beside the code and the starts. */
-static uint32_t depth[16], work[16];
+static uint32_t depth[16], work[16], greatest;
 
-static void fresh_slices(void)
+static void fresh_lent(void)
 {
     for (size_t i = 0; i < 16; i++)
         depth[i] = work[i] = 77;
+    greatest = 77;
 }
 
 /* Whether the first cells of a slice hold a number, and the others are as they were. */
@@ -193,13 +194,33 @@ static int filled(const uint32_t *slice, size_t count, uint32_t number)
     return 1;
 }
 
+/* Whether all that is lent is as it was. */
+static int unwritten(void) { return filled(depth, 0, 0) && filled(work, 0, 0) && greatest == 77; }
+
+/* A check's answer, behind which the greatest depth is told, or after a refusal as it was. */
+static tf_answer with_greatest(tf_answer answer)
+{
+    report("the greatest depth", (greatest == 77) == (tf_refusal(answer) != 0));
+    return answer;
+}
+
 /* A check of some bytes, after which the work slice has to end with zeros in the cells that it may use. */
 static tf_answer checked(const char *bytes, size_t length, const uint32_t *starts, size_t cells)
 {
-    fresh_slices();
-    tf_answer answer = tf_check((const uint8_t *)bytes, length, starts, cells, depth, length + 1, work, length + 1);
+    fresh_lent();
+    const uint8_t *code = (const uint8_t *)bytes;
+    tf_answer answer =
+        with_greatest(tf_check(code, length, starts, cells, depth, length + 1, work, length + 1, &greatest));
     report("the work ends with zeros", filled(work, length + 1, 0));
     return answer;
+}
+
+/* The same from one start, with all of the depths and so much work and room for a reason. */
+static tf_answer explain(const uint8_t *code, size_t length, const uint32_t *starts, size_t cells, uint64_t *out,
+                         size_t room)
+{
+    fresh_lent();
+    return with_greatest(tf_explain(code, length, starts, 2, depth, 16, work, cells, &greatest, out, room));
 }
 
 static void depths(void)
@@ -223,17 +244,32 @@ static void depths(void)
     refusal("too long to count", tf_count_instructions(long_code, sizeof long_code), TF_TOO_LARGE);
 }
 
-/* Room that does not suffice: both slices stay as they were. */
+/* How much stack code needs: the greatest of its depths, wherever that stands. */
+static void stacks(void)
+{
+    static const char up_and_down[] = "\x05\x05\x00\x00\x05\x65";
+    static const uint32_t zero[] = {0, 0}, most[] = {0, 65535}, end[] = {0, 0, 6, 9};
+    report("in the middle", checked(up_and_down, 6, zero, 2) == 6 && greatest == 2);
+    report("at the end, by falling through", checked(up_and_down, 2, zero, 2) == 2 && greatest == 2);
+    report("at the end, by a start", checked(up_and_down, 6, end, 4) == 6 && greatest == 9);
+    report("at the end of nothing", checked("", 0, most, 2) == 0 && greatest == 65535);
+    report("as large as can be", checked("\x65", 1, most, 2) == 1 && greatest == 65535);
+    report("0, where it is a start's", checked("\x69", 1, zero, 2) == 1 && greatest == 0);
+    report("0, where there is no start", checked(up_and_down, 6, NULL, 0) == 0 && greatest == 0);
+}
+
+/* Room that does not suffice: all that is lent stays as it was. */
 static void short_slices(void)
 {
     static const uint32_t zero[] = {0, 0};
-    fresh_slices();
-    refusal("too few depths", tf_check(nine, sizeof nine, zero, 2, depth, 9, work, 10), TF_SHORT_DEPTHS);
-    refusal("too little work", tf_check(nine, sizeof nine, zero, 2, depth, 10, work, 9), TF_SHORT_DEPTHS);
-    refusal("no work", tf_check(nine, sizeof nine, zero, 2, depth, 10, NULL, 0), TF_SHORT_DEPTHS);
-    refusal("21 before 22", tf_check(nine, 3, zero, 2, depth, 4, work, 3), TF_SHORT_DEPTHS);
-    refusal("10 before 21", tf_check(long_code, sizeof long_code, zero, 2, depth, 16, work, 16), TF_TOO_LARGE);
-    report("nothing is written", filled(depth, 0, 0) && filled(work, 0, 0));
+    fresh_lent();
+    refusal("too few depths", tf_check(nine, sizeof nine, zero, 2, depth, 9, work, 10, &greatest), TF_SHORT_DEPTHS);
+    refusal("too little work", tf_check(nine, sizeof nine, zero, 2, depth, 10, work, 9, &greatest), TF_SHORT_DEPTHS);
+    refusal("no work", tf_check(nine, sizeof nine, zero, 2, depth, 10, NULL, 0, &greatest), TF_SHORT_DEPTHS);
+    refusal("21 before 22", tf_check(nine, 3, zero, 2, depth, 4, work, 3, &greatest), TF_SHORT_DEPTHS);
+    refusal("10 before 21", tf_check(long_code, sizeof long_code, zero, 2, depth, 16, work, 16, &greatest),
+            TF_TOO_LARGE);
+    report("nothing is written", unwritten());
 }
 
 /* Code that no depths can be given to, from one start at its front, and the reason: with more cells than it has, with
@@ -245,15 +281,12 @@ static void explained(const char *what, const char *bytes, size_t length, uint32
     const uint32_t starts[] = {0, from};
     const size_t rooms[] = {CELLS, TF_REASON_CELLS};
     for (size_t i = 0; i < 2; i++) {
-        fresh_slices();
-        refusal(what, tf_explain(code, length, starts, 2, depth, 16, work, 16, fresh(), rooms[i]), TF_NO_DEPTHS);
+        refusal(what, explain(code, length, starts, 16, fresh(), rooms[i]), TF_NO_DEPTHS);
         report(what, memcmp(cell, reason, TF_REASON_CELLS * sizeof reason[0]) == 0 && untouched(TF_REASON_CELLS));
         report(what, filled(depth, length + 1, TF_NO_DEPTH) && filled(work, length + 1, 0));
     }
-    fresh_slices();
-    refused(what, tf_explain(code, length, starts, 2, depth, 16, work, 16, fresh(), TF_REASON_CELLS - 1), TF_FULL,
-            TF_TABLE_TEXT);
-    report(what, filled(depth, 0, 0) && filled(work, 0, 0));
+    refused(what, explain(code, length, starts, 16, fresh(), TF_REASON_CELLS - 1), TF_FULL, TF_TABLE_TEXT);
+    report(what, unwritten());
 }
 
 static void reasons(void)
@@ -278,18 +311,14 @@ static void no_reasons(void)
 {
     static const uint32_t zero[] = {0, 0}, inside[] = {2, 0};
     static const uint8_t unknown[] = {TF_OP_POP, NO_OPCODE};
-    value("accepted", tf_explain(nine, sizeof nine, zero, 2, depth, 10, work, 10, fresh(), CELLS), 6);
-    report("tells no reason", untouched(0) && depth[4] == 0);
-    refused("a start inside", tf_explain(nine, sizeof nine, inside, 2, depth, 10, work, 10, fresh(), CELLS),
-            TF_BAD_STARTS, 0);
-    refused("cut short", tf_explain(nine, 3, zero, 2, depth, 10, work, 10, fresh(), CELLS), TF_CUT_SHORT, 1);
-    refused("no opcode", tf_explain(unknown, 2, zero, 2, depth, 10, work, 10, fresh(), CELLS), TF_UNKNOWN_OPCODE, 1);
-    refused("too little work", tf_explain(nine, sizeof nine, zero, 2, depth, 10, work, 9, fresh(), CELLS),
-            TF_SHORT_DEPTHS, 0);
-    refused("too long", tf_explain(long_code, sizeof long_code, zero, 2, depth, 10, work, 10, fresh(), CELLS),
-            TF_TOO_LARGE, 0);
-    refused("18 before 10", tf_explain(long_code, sizeof long_code, zero, 2, depth, 10, work, 10, NULL, 0), TF_FULL,
-            TF_TABLE_TEXT);
+    value("accepted", explain(nine, sizeof nine, zero, 10, fresh(), CELLS), 6);
+    report("tells no reason", untouched(0) && depth[4] == 0 && greatest == 1);
+    refused("a start inside", explain(nine, sizeof nine, inside, 10, fresh(), CELLS), TF_BAD_STARTS, 0);
+    refused("cut short", explain(nine, 3, zero, 10, fresh(), CELLS), TF_CUT_SHORT, 1);
+    refused("no opcode", explain(unknown, 2, zero, 10, fresh(), CELLS), TF_UNKNOWN_OPCODE, 1);
+    refused("too little work", explain(nine, sizeof nine, zero, 9, fresh(), CELLS), TF_SHORT_DEPTHS, 0);
+    refused("too long", explain(long_code, sizeof long_code, zero, 16, fresh(), CELLS), TF_TOO_LARGE, 0);
+    refused("18 before 10", explain(long_code, sizeof long_code, zero, 16, NULL, 0), TF_FULL, TF_TABLE_TEXT);
 }
 
 /* All parts of a listing with so much room each, checked where depths are given, and whether no byte behind a part changes. */
@@ -326,7 +355,7 @@ static void listings(void)
     uint64_t told[TF_LIST_CELLS] = {0, 0};
     uint8_t text[28];
     char all[600];
-    report("the nine bytes are accepted", tf_check(nine, sizeof nine, zero, 2, depth, 10, work, 10) == 6);
+    report("the nine bytes are accepted", checked((const char *)nine, sizeof nine, zero, 2) == 6);
     for (size_t room = 35; room < 300; room += 13) {
         size_t size = listed(nine, sizeof nine, NULL, room, all);
         report("the listing in parts", size == sizeof plain - 1 && memcmp(all, plain, size) == 0);
@@ -425,6 +454,7 @@ int main(void)
     damaged();
     writing();
     depths();
+    stacks();
     short_slices();
     reasons();
     no_reasons();

@@ -73,6 +73,18 @@ static int zeroed(size_t count)
     return blank_from(WORK, count);
 }
 
+/* The greatest depth among the first elements of the depths; 0 where there is none. */
+static uint32_t greatest_of(size_t count)
+{
+    uint32_t most = 0;
+    for (size_t i = 0; i < count; i++) {
+        uint32_t depth = ((const uint32_t *)lent_at(DEPTHS))[i];
+        if (depth != TF_NO_DEPTH && depth > most)
+            most = depth;
+    }
+    return most;
+}
+
 static tf_answer checks_of(size_t length, size_t pairs, size_t room, size_t work)
 {
     lend_code(length);
@@ -81,13 +93,17 @@ static tf_answer checks_of(size_t length, size_t pairs, size_t room, size_t work
         ((uint32_t *)lent_at(PAIRS))[i] = random_byte() % 2;
     lend(DEPTHS, room);
     lend(WORK, work);
+    lend(GREATEST, 1);
     remember();
+    uint32_t *greatest = lent_at(GREATEST);
     tf_answer answer = tf_check(LENT(const uint8_t, CODE), LENT(const uint32_t, PAIRS), LENT(uint32_t, DEPTHS),
-                                LENT(uint32_t, WORK));
+                                LENT(uint32_t, WORK), greatest);
     if (tf_refusal(answer) == 0 || tf_refusal(answer) == TF_NO_DEPTHS)
         report("depths", room > length && blank_from(DEPTHS, length + 1));
     else
         report("no depths are written", kept(DEPTHS));
+    report("the greatest", tf_refusal(answer) == 0 ? *greatest == greatest_of(length + 1) && blank_from(GREATEST, 1)
+                                                   : kept(GREATEST));
     report("the work", tf_refusal(answer) == TF_SHORT_DEPTHS ? kept(WORK) : work > length && zeroed(length + 1));
     report("what is read stays", kept(CODE) && kept(PAIRS));
     report("too few elements", (tf_refusal(answer) == TF_SHORT_DEPTHS) == (room <= length || work <= length));
@@ -110,16 +126,17 @@ static void explanations(tf_answer checked, size_t room)
     remember();
     lend(DEPTHS, lent[DEPTHS].length);
     lend(WORK, lent[WORK].length);
+    lend(GREATEST, 1);
     if (room < TF_REASON_CELLS)
         remember(); /* nothing may change */
     tf_answer answer = tf_explain(LENT(const uint8_t, CODE), LENT(const uint32_t, PAIRS), LENT(uint32_t, DEPTHS),
-                                  LENT(uint32_t, WORK), LENT(uint64_t, OUT));
+                                  LENT(uint32_t, WORK), (uint32_t *)lent_at(GREATEST), LENT(uint64_t, OUT));
     if (room < TF_REASON_CELLS) {
         report("no room for a reason", tf_named(answer) == TF_TABLE_TEXT && refused_by(answer, TF_FULL, TF_FULL));
         return;
     }
     report("the check's answer", answer == checked);
-    report("and its elements", kept(CODE) && kept(PAIRS) && kept(DEPTHS) && kept(WORK));
+    report("and its elements", kept(CODE) && kept(PAIRS) && kept(DEPTHS) && kept(WORK) && kept(GREATEST));
     report("a reason on 23 alone", tf_refusal(answer) == TF_NO_DEPTHS ? a_reason() : kept(OUT));
 }
 

@@ -10,14 +10,14 @@
 #include <sys/mman.h>
 #include <unistd.h>
 
-enum { STATE = 0, LINES = TF_TABLE_TEXT + 1, ARRAYS, ROOM = 1 << 21, GUARD = 64, FILLED = 0x23 };
+enum { STATE = 0, LINES = TF_TABLE_TEXT + 1, GREATEST, ARRAYS, ROOM = 1 << 21, GUARD = 64, FILLED = 0x23 };
 
-/* By the numbers of the tables; the state is number 0, and the last a text that is read. */
+/* By the numbers of the tables; the state is number 0, and the last two a text that is read and a greatest depth. */
 static struct { uint8_t *fence, *was; size_t element, length; } lent[ARRAYS] = {
     {0, 0, sizeof(uint64_t), 0}, {0, 0, sizeof(uint8_t), 0},  {0, 0, sizeof(uint32_t), 0},
     {0, 0, sizeof(uint32_t), 0}, {0, 0, sizeof(uint64_t), 0}, {0, 0, sizeof(uint64_t), 0},
     {0, 0, sizeof(uint32_t), 0}, {0, 0, sizeof(uint32_t), 0}, {0, 0, sizeof(uint64_t), 0},
-    {0, 0, sizeof(uint8_t), 0},
+    {0, 0, sizeof(uint8_t), 0},  {0, 0, sizeof(uint32_t), 0},
 };
 
 static void raise_fences(void)

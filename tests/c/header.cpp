@@ -40,7 +40,7 @@ struct Rule {
 bool as_expected()
 {
     static const uint8_t bytes[] = {TF_OP_JUMP_IF_FALSE_OR_POP, 1, 0, TF_OP_LOAD_LOCAL0, TF_OP_RETURN_VALUE};
-    uint32_t depths[sizeof bytes + 1], work[sizeof bytes + 1];
+    uint32_t depths[sizeof bytes + 1], work[sizeof bytes + 1], greatest = 9;
     Rule rule;
     if (rule.build() != 0 || tf_current_offset(&rule.b) != sizeof bytes || !tf_is_dead(&rule.b))
         return false;
@@ -50,8 +50,8 @@ bool as_expected()
     if (tf_current_position(&rule.b).end != 20 || rule.b.state.locations != 3)
         return false;
     tf_answer checked = tf_check(rule.code, sizeof bytes, rule.starts, TF_START_CELLS, depths, sizeof bytes + 1, work,
-                                 sizeof bytes + 1);
-    return checked == 3 && depths[4] == 1;
+                                 sizeof bytes + 1, &greatest);
+    return checked == 3 && depths[4] == 1 && greatest == 1;
 }
 
 }

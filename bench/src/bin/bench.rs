@@ -66,12 +66,9 @@ fn main() {
             plain: &|| plain.borrow_mut().check(&work),
         };
         measure(&pair, repetitions);
-        assert_eq!(
-            proved.borrow().depths,
-            plain.borrow().depths,
-            "{}",
-            work.what
-        );
+        let (proved, plain) = (proved.borrow(), plain.borrow());
+        assert_eq!(proved.depths, plain.depths, "{}", work.what);
+        assert_eq!(proved.greatest, plain.greatest, "{}", work.what);
     }
     for (rows, locations, handlers) in [
         (

@@ -50,6 +50,7 @@ fn main() -> Result<(), Refusal> {
             .map_or("-".to_owned(), |depth| depth.to_string());
         println!("depth {depth}  {:>2} {:?}", instruction.offset(), instruction.opcode());
     }
+    println!("it needs a stack of {}", checked.greatest());
 
     let refusal = brake_rule(true).expect_err("its branches meet at different depths");
     println!("the broken rule: {refusal}");

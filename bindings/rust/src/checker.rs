@@ -8,10 +8,31 @@ pub const NO_DEPTH: u32 = 65_536;
 /// The most bytes of code.
 const CODE_MOST: usize = 1_048_576;
 
+/// What a check says of the depths that it gave.
+#[derive(Debug, Clone, Copy, PartialEq, Eq, Hash)]
+pub struct Assignment {
+    /// How many instructions have a depth.
+    pub count: usize,
+    /// The greatest depth, before an instruction or at the code's end; 0 where there is none. No path from a start
+    /// comes there with more, and where there is a start some path comes with as much.
+    pub greatest: u16,
+}
+
+impl Assignment {
+    /// What an answer tells, and the number beside it.
+    fn told(answer: sys::Answer, greatest: u32) -> Result<Self, Refusal> {
+        answer.read().map(|count| Self {
+            count: count as usize,
+            // The library tells a depth where it accepts.
+            greatest: greatest as u16,
+        })
+    }
+}
+
 /// Code that was accepted: the depth of the stack before each instruction that a start leads to.
 #[derive(Debug, Clone, PartialEq, Eq)]
 pub struct Checked {
-    count: usize,
+    assignment: Assignment,
     depths: Vec<u32>,
 }
 
@@ -19,7 +40,23 @@ impl Checked {
     /// How many instructions have a depth.
     #[must_use]
     pub fn count(&self) -> usize {
-        self.count
+        self.assignment.count
+    }
+
+    /// How much stack the code needs at most, before an instruction or at its end: an interpreter reserves so much, and
+    /// what an instruction uses while it runs. 0 where no start leads anywhere.
+    ///
+    /// ```
+    /// use tokenfinch::{Refusal, check};
+    ///
+    /// // Two values are loaded, and come off again.
+    /// assert_eq!(check(&[0x05, 0x05, 0x00, 0x00], &[0, 0])?.greatest(), 2);
+    /// assert_eq!(check(&[0x05, 0x05, 0x00, 0x00], &[])?.greatest(), 0);
+    /// # Ok::<(), Refusal>(())
+    /// ```
+    #[must_use]
+    pub fn greatest(&self) -> u16 {
+        self.assignment.greatest
     }
 
     /// The depths by offset, [`NO_DEPTH`] where there is none; the last is the end's.
@@ -50,6 +87,7 @@ impl Checked {
 /// let code = [0x06, 0x5A, 0x03, 0x00, 0x08, 0x07, 0x00, 0x05, 0x65];
 /// let checked = check(&code, &[0, 0])?;
 /// assert_eq!(checked.count(), 6);
+/// assert_eq!(checked.greatest(), 1);
 /// assert_eq!(checked.depth_at(4), Some(0));
 /// assert_eq!(checked.depth_at(9), None);
 /// // A loop that leaves a value on the stack each time round.
@@ -87,23 +125,25 @@ pub fn explain(code: &[u8], starts: &[u32]) -> Result<Checked, CheckError> {
 /// The same as [`check`] into lent slices. The first cells of `depths`, one more than the code has bytes, hold the depths
 /// and [`NO_DEPTH`] elsewhere; on 23 they all hold that; any other refusal writes nothing there. As many cells of `work`
 /// are used, whatever they hold, and end with zeros, accepted or not; 10 and 21 leave them as they are. No later cell of
-/// either is ever written. Answers the count.
+/// either is ever written.
 ///
 /// # Errors
 /// As [`check`], with 21 behind 10 where one of the slices is too short.
 ///
 /// ```
-/// use tokenfinch::{NO_DEPTH, Refusal, check_into};
+/// use tokenfinch::{Assignment, NO_DEPTH, Refusal, check_into};
 ///
 /// let (mut depths, mut work) = ([0; 4], [7; 4]);
-/// assert_eq!(check_into(&[0x05, 0x65], &[0, 0], &mut depths, &mut work)?, 2);
+/// let assignment = check_into(&[0x05, 0x65], &[0, 0], &mut depths, &mut work)?;
+/// assert_eq!(assignment, Assignment { count: 2, greatest: 1 });
 /// assert_eq!(depths, [0, 1, NO_DEPTH, 0]);
 /// assert_eq!(work, [0, 0, 0, 7]);
 /// # Ok::<(), Refusal>(())
 /// ```
-pub fn check_into(code: &[u8], starts: &[u32], depths: &mut [u32], work: &mut [u32]) -> Result<usize, Refusal> {
-    let answer = sys::check(code, starts, depths, work);
-    answer.read().map(|count| count as usize)
+pub fn check_into(code: &[u8], starts: &[u32], depths: &mut [u32], work: &mut [u32]) -> Result<Assignment, Refusal> {
+    let mut greatest = 0;
+    let answer = sys::check(code, starts, depths, work, &mut greatest);
+    Assignment::told(answer, greatest)
 }
 
 /// A checker that keeps its memory from one call to the next, for an editor that checks at each keystroke. It keeps nothing
@@ -141,9 +181,9 @@ impl Checker {
     /// One that has no memory yet.
     #[must_use]
     pub fn new() -> Self {
-        let (count, depths) = (0, Vec::new());
+        let (assignment, depths) = (Assignment { count: 0, greatest: 0 }, Vec::new());
         Self {
-            checked: Checked { count, depths },
+            checked: Checked { assignment, depths },
             work: Vec::new(),
         }
     }
@@ -154,7 +194,7 @@ impl Checker {
     /// As [`check`].
     pub fn check(&mut self, code: &[u8], starts: &[u32]) -> Result<&Checked, Refusal> {
         self.make_room(code);
-        self.checked.count = check_into(code, starts, &mut self.checked.depths, &mut self.work)?;
+        self.checked.assignment = check_into(code, starts, &mut self.checked.depths, &mut self.work)?;
         Ok(&self.checked)
     }
 
@@ -164,10 +204,10 @@ impl Checker {
     /// As [`explain`].
     pub fn explain(&mut self, code: &[u8], starts: &[u32]) -> Result<&Checked, CheckError> {
         self.make_room(code);
-        let mut told = [0; Reason::CELLS];
-        let answer = sys::explain(code, starts, &mut self.checked.depths, &mut self.work, &mut told);
-        let count = answer.read().map_err(|refusal| CheckError::new(refusal, told))?;
-        self.checked.count = count as usize;
+        let (mut greatest, mut told) = (0, [0; Reason::CELLS]);
+        let Checked { assignment, depths } = &mut self.checked;
+        let answer = sys::explain(code, starts, depths, &mut self.work, &mut greatest, &mut told);
+        *assignment = Assignment::told(answer, greatest).map_err(|refusal| CheckError::new(refusal, told))?;
         Ok(&self.checked)
     }
 
@@ -206,6 +246,19 @@ mod tests {
             assert_eq!(explained, explain(code, starts));
             assert_eq!(explained.map_err(CheckError::refusal), checked);
         }
+    }
+
+    #[test]
+    fn the_greatest_depth_is_told_wherever_it_stands() {
+        let greatest = |code: &[u8], starts: &[u32]| check(code, starts).map(|checked| checked.greatest());
+        let up_and_down = [5, 5, 0, 0, 5, 101];
+        assert_eq!(greatest(&up_and_down, &[0, 0]), Ok(2));
+        assert_eq!(greatest(&up_and_down[..2], &[0, 0]), Ok(2));
+        assert_eq!(greatest(&up_and_down, &[0, 0, 6, 9]), Ok(9));
+        assert_eq!(greatest(&[101], &[0, 65_535]), Ok(65_535));
+        assert_eq!(greatest(&[], &[0, 65_535]), Ok(65_535));
+        assert_eq!(greatest(&[105], &[0, 0]), Ok(0));
+        assert_eq!(greatest(&up_and_down, &[]), Ok(0));
     }
 
     #[test]

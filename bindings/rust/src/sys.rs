@@ -15,7 +15,7 @@ mod c {
         pub safe fn tf_instruction_size(opcode: u8, names: u8) -> u64;
         pub safe fn tf_assert_flags(comparison: u8) -> u8;
         pub safe fn tf_decode_assert_flags(flags: u8) -> u8;
-        // Below, each pointer has as many elements behind it as the number after it says.
+        // Below, each pointer has as many elements behind it as the number after it says; `greatest` has one.
         pub fn tf_opcode_name(opcode: u8, out: *mut u8, room: usize) -> u64;
         pub fn tf_step(code: *const u8, length: usize, at: usize, out: *mut u64, room: usize) -> u64;
         pub fn tf_check(
@@ -27,6 +27,7 @@ mod c {
             room: usize,
             work: *mut u32,
             work_room: usize,
+            greatest: *mut u32,
         ) -> u64;
         pub fn tf_explain(
             code: *const u8,
@@ -37,6 +38,7 @@ mod c {
             room: usize,
             work: *mut u32,
             work_room: usize,
+            greatest: *mut u32,
             told: *mut u64,
             told_room: usize,
         ) -> u64;
@@ -263,8 +265,8 @@ pub fn instruction_size(opcode: u8, names: u8) -> Answer {
     Answer(c::tf_instruction_size(opcode, names))
 }
 
-// SAFETY, for each block below: every pointer comes from a slice, together with that slice's own length, and two slices
-// that one call is lent never overlap where one of them is `&mut`.
+// SAFETY, for each block below: every pointer comes from a slice, together with that slice's own length, or is a
+// reference; and no two of those that one call is lent overlap where one of them is `&mut`.
 
 pub fn opcode_name(opcode: u8, out: &mut [u8]) -> Answer {
     Answer(unsafe { c::tf_opcode_name(opcode, out.as_mut_ptr(), out.len()) })
@@ -274,7 +276,7 @@ pub fn step(code: &[u8], at: usize, out: &mut [u64]) -> Answer {
     Answer(unsafe { c::tf_step(code.as_ptr(), code.len(), at, out.as_mut_ptr(), out.len()) })
 }
 
-pub fn check(code: &[u8], starts: &[u32], depths: &mut [u32], work: &mut [u32]) -> Answer {
+pub fn check(code: &[u8], starts: &[u32], depths: &mut [u32], work: &mut [u32], greatest: &mut u32) -> Answer {
     Answer(unsafe {
         c::tf_check(
             code.as_ptr(),
@@ -285,11 +287,19 @@ pub fn check(code: &[u8], starts: &[u32], depths: &mut [u32], work: &mut [u32]) 
             depths.len(),
             work.as_mut_ptr(),
             work.len(),
+            greatest,
         )
     })
 }
 
-pub fn explain(code: &[u8], starts: &[u32], depths: &mut [u32], work: &mut [u32], told: &mut [u64]) -> Answer {
+pub fn explain(
+    code: &[u8],
+    starts: &[u32],
+    depths: &mut [u32],
+    work: &mut [u32],
+    greatest: &mut u32,
+    told: &mut [u64],
+) -> Answer {
     Answer(unsafe {
         c::tf_explain(
             code.as_ptr(),
@@ -300,6 +310,7 @@ pub fn explain(code: &[u8], starts: &[u32], depths: &mut [u32], work: &mut [u32]
             depths.len(),
             work.as_mut_ptr(),
             work.len(),
+            greatest,
             told.as_mut_ptr(),
             told.len(),
         )

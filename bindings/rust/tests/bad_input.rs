@@ -8,7 +8,7 @@ use std::ptr::{null, null_mut};
 
 use common::Random;
 use tokenfinch::{
-    Checked, NO_DEPTH, Refusal, Table, check_into, explain, instructions,
+    Assignment, Checked, NO_DEPTH, Refusal, Table, check_into, explain, instructions,
     lent::{Emission, Lent, STATE_CELLS},
     lookups, step,
 };
@@ -239,7 +239,10 @@ fn check_any(code: &[u8], starts: &[u32], cells: [u32; 2]) {
         return;
     }
     match answer {
-        Ok(_) => {}
+        Ok(Assignment { greatest, .. }) => {
+            let given = depths[..used].iter().filter(|&&depth| depth != NO_DEPTH);
+            assert_eq!(u32::from(greatest), given.max().copied().unwrap_or(0));
+        }
         Err(Refusal::NoDepths) => assert!(depths[..used].iter().all(|&depth| depth == NO_DEPTH)),
         Err(_) => assert_eq!(depths[..used], depths_before[..used]),
     }
@@ -247,9 +250,10 @@ fn check_any(code: &[u8], starts: &[u32], cells: [u32; 2]) {
     assert!(work[..used].iter().all(|&cell| cell == 0));
     assert_eq!(work[used..], work_before[used..]);
     let explained = explain(code, starts);
+    let told = |checked: &Checked| (checked.count(), checked.greatest(), checked.depths().to_vec());
     assert_eq!(
-        explained.as_ref().map(Checked::depths).map_err(|error| error.refusal()),
-        answer.map(|_| &depths[..used])
+        explained.as_ref().map(told).map_err(|error| error.refusal()),
+        answer.map(|Assignment { count, greatest }| (count, greatest, depths[..used].to_vec()))
     );
     if let Err(error) = explained {
         assert_eq!(error.reason().is_some(), error.refusal() == Refusal::NoDepths);
@@ -305,6 +309,7 @@ unsafe extern "C" {
         cells: usize,
         work: *mut u32,
         work_cells: usize,
+        greatest: *mut u32,
     ) -> u64;
     fn tf_explain(
         code: *const u8,
@@ -315,6 +320,7 @@ unsafe extern "C" {
         cells: usize,
         work: *mut u32,
         work_cells: usize,
+        greatest: *mut u32,
         told: *mut u64,
         told_cells: usize,
     ) -> u64;
@@ -330,7 +336,9 @@ fn halves(answer: u64) -> [u64; 2] {
 fn null_and_no_cells() {
     let mut state = [0; STATE_CELLS];
     let cells = state.as_mut_ptr();
-    // SAFETY: each pointer is null beside a length of 0, or has as many cells behind it as is said.
+    let mut greatest = [9; 4];
+    // SAFETY: each pointer is null beside a length of 0, or has as many cells behind it as is said; that to the
+    // greatest depth has one.
     let [new, emit, look, read, checked] = unsafe {
         let new = [
             tfb_new(0, null_mut(), 0, null_mut(), 0),
@@ -371,11 +379,12 @@ fn null_and_no_cells() {
             tf_step(null(), 0, usize::MAX, null_mut(), 0),
         ];
         let (one, other) = (&mut [0], &mut [0]);
+        let [a, b, c, d] = &mut greatest;
         let checked = [
-            tf_check(null(), 0, null(), 0, null_mut(), 0, null_mut(), 0),
-            tf_check(null(), 0, null(), 0, one.as_mut_ptr(), 1, null_mut(), 0),
-            tf_check(null(), 0, null(), 0, one.as_mut_ptr(), 1, other.as_mut_ptr(), 1),
-            tf_explain(null(), 0, null(), 0, null_mut(), 0, null_mut(), 0, null_mut(), 0),
+            tf_check(null(), 0, null(), 0, null_mut(), 0, null_mut(), 0, a),
+            tf_check(null(), 0, null(), 0, one.as_mut_ptr(), 1, null_mut(), 0, b),
+            tf_check(null(), 0, null(), 0, one.as_mut_ptr(), 1, other.as_mut_ptr(), 1, c),
+            tf_explain(null(), 0, null(), 0, null_mut(), 0, null_mut(), 0, d, null_mut(), 0),
         ];
         [new, [dead[0], dead[1], live[0], live[1]], look, read, checked]
     };
@@ -388,4 +397,5 @@ fn null_and_no_cells() {
     );
     assert_eq!(read.map(|answer| halves(answer)[0]), [0, 18, 0, 0]);
     assert_eq!(checked.map(|answer| halves(answer)[0]), [21, 21, 0, 18]);
+    assert_eq!(greatest, [9, 9, 0, 9]);
 }

@@ -1,7 +1,7 @@
 //! The lines that need no builder: the opcode rules, and the decoder, the checker, a lookup and the reading of a listing on
 //! what the line gives.
 
-use tokenfinch::{Refusal, check_into, lookups, read_listing_into, rules, step};
+use tokenfinch::{Assignment, Refusal, check_into, lookups, read_listing_into, rules, step};
 
 use super::{
     out::Out,
@@ -68,7 +68,7 @@ impl Given {
         let code = words.bytes()?;
         let starts: Vec<u32> = words.numbers()?;
         match self.checked([code.len() + 1; 2], &code, &starts) {
-            Ok(count) => out.ok().value(count).values(&self.depths),
+            Ok(assignment) => out.assigned(assignment).values(&self.depths),
             Err(refusal) => out.refused(refusal),
         };
         Some(())
@@ -109,14 +109,14 @@ impl Given {
     /// A check with the sums of the whole slices that it was lent.
     fn check_sum(&mut self, cells: [usize; 2], code: &[u8], starts: &[u32], out: &mut Out) {
         match self.checked(cells, code, starts) {
-            Ok(count) => out.ok().value(count),
+            Ok(assignment) => out.assigned(assignment),
             Err(refusal) => out.refused(refusal),
         };
         out.value(sum(&self.depths)).value(sum(&self.work));
     }
 
     /// A check that is lent so many cells of depths and of work.
-    fn checked(&mut self, [depths, work]: [usize; 2], code: &[u8], starts: &[u32]) -> Result<usize, Refusal> {
+    fn checked(&mut self, [depths, work]: [usize; 2], code: &[u8], starts: &[u32]) -> Result<Assignment, Refusal> {
         fill(&mut self.depths, depths);
         fill(&mut self.work, work);
         check_into(code, starts, &mut self.depths, &mut self.work)

@@ -224,7 +224,7 @@ mod tests {
             "check_zeros 0 1 2000001",
             "check_zeros 0 1",
         ]);
-        assert!(told[0].starts_with("ok 0 "));
+        assert!(told[0].starts_with("ok 0 0 "));
         assert_eq!(told[1..], ["? 2", "? 3", "? 4", "? 5", "? 6", "? 7", "? 8"]);
     }
 

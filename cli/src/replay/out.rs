@@ -5,7 +5,7 @@ use std::{
     io::{self, Write},
 };
 
-use tokenfinch::{ReadError, Refusal};
+use tokenfinch::{Assignment, ReadError, Refusal};
 
 const DIGITS: &[u8; 16] = b"0123456789abcdef";
 
@@ -46,6 +46,11 @@ impl Out {
             self.value(value);
         }
         self
+    }
+
+    /// `ok` of a check: how many instructions have a depth, and the greatest.
+    pub fn assigned(&mut self, Assignment { count, greatest }: Assignment) -> &mut Self {
+        self.ok().value(count).value(greatest)
     }
 
     /// Bytes in hexadecimal, or `-` for none.

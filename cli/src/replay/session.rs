@@ -345,7 +345,11 @@ impl Session {
         let code = used(&self.lent.code, self.lent.count(Table::Code), 1)?;
         let starts = used(&self.lent.starts, self.lent.count(Table::Starts), 2)?;
         match check(code, starts) {
-            Ok(checked) => out.ok().value(checked.count()).value(sum(checked.depths())),
+            Ok(checked) => out
+                .ok()
+                .value(checked.count())
+                .value(checked.greatest())
+                .value(sum(checked.depths())),
             Err(refusal) => out.refused(refusal),
         };
         Some(())

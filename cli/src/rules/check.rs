@@ -1,5 +1,5 @@
-//! `rules check`: the listing of a rule with the depth of the stack in front of each line, or why there are no depths. With
-//! `--watch` the verdict alone, again and again.
+//! `rules check`: the listing of a rule with the depth of the stack in front of each line, and behind it the greatest
+//! depth; or why there are no depths. With `--watch` the verdict alone, again and again.
 
 use std::{
     ffi::{OsStr, OsString},
@@ -16,12 +16,7 @@ const CODE_MOST: u64 = 1_048_576;
 /// `--watch` may stand anywhere; the first other word is the rule, those behind it are starts.
 pub fn run(words: &[OsString]) -> Outcome {
     let (options, others): (Vec<_>, Vec<_>) = words.iter().partition(|word| *word == "--watch");
-    let Some((file, starts)) = others.split_first() else {
-        return Err(said(
-            "check takes a file, or - for standard input, and starts OFFSET:DEPTH",
-        ));
-    };
-    let starts = self::starts(starts)?;
+    let (file, starts) = asked("check", &others)?;
     if options.is_empty() {
         once(file, &starts)
     } else {
@@ -34,12 +29,25 @@ fn once(file: &OsStr, starts: &[u32]) -> Outcome {
     let mut out = BufWriter::new(io::stdout().lock());
     let checked = explain(&code, starts);
     match &checked {
-        // The library made these bytes, and is proved to; they are handed on unread.
-        Ok(checked) => out.write_all(&checked.listing(&code).map_err(|refusal| said(refusal.to_string()))?)?,
+        Ok(checked) => {
+            // The library made these bytes, and is proved to; they are handed on unread.
+            out.write_all(&checked.listing(&code).map_err(|refusal| said(refusal.to_string()))?)?;
+            writeln!(out, "stack {}", checked.greatest())?;
+        }
         Err(error) => writeln!(out, "{}", refused(&code, starts, *error))?,
     }
     out.flush()?;
     Ok(checked.is_ok())
+}
+
+/// The rule and the starts that the words of a command give.
+pub fn asked<'a>(command: &str, words: &[&'a OsString]) -> Result<(&'a OsStr, Vec<u32>), Trouble> {
+    let Some((file, starts)) = words.split_first() else {
+        return Err(said(format!(
+            "{command} takes a file, or - for standard input, and starts OFFSET:DEPTH"
+        )));
+    };
+    Ok((file, self::starts(starts)?))
 }
 
 /// A rule's bytes. One byte more than a rule may have tells that it has too many, without reading on.

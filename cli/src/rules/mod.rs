@@ -9,6 +9,7 @@ mod misread;
 mod opcodes;
 mod origins;
 mod reasons;
+mod stack;
 mod watch;
 
 use std::{
@@ -74,6 +75,7 @@ fn command(words: &[OsString]) -> Outcome {
         ("listing", [file]) => listing::run(file),
         ("listing", _) => Err(said("listing takes one file, or - for standard input")),
         ("check", words) => check::run(words),
+        ("stack", words) => stack::run(words),
         ("compile", words) => compile::run(words),
         ("opcodes", []) => opcodes::run(&mut io::stdout().lock()),
         ("replay", []) => match replay::run(io::stdin().lock(), io::stdout().lock()) {

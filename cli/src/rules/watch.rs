@@ -42,7 +42,11 @@ fn verdict(checker: &mut Checker, code: &[u8], starts: &[u32]) -> String {
     let checked = checker.explain(code, starts);
     let took = begun.elapsed().as_secs_f64() * 1e3;
     let words = match checked {
-        Ok(checked) => format!("accepted, {} instructions with a depth", checked.count()),
+        Ok(checked) => format!(
+            "accepted, {} instructions with a depth, stack {}",
+            checked.count(),
+            checked.greatest()
+        ),
         Err(error) => check::refused(code, starts, error),
     };
     format!("{words} ({took:.1} ms)")

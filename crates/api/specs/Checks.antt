@@ -1,4 +1,5 @@
--- What a check tells: the count of instructions that have a depth, or the refusal, and on 23 the reason.
+-- What a check tells: the count of instructions that have a depth, or the refusal, and on 23 the reason. Beside it one
+-- lent number, g before and g′ after, is told the greatest depth.
 -- Assumes nothing.
 use mathlib.Core.Path.{_≡_}
 use mathlib.Core.List.{List, [], _∷_}
@@ -23,12 +24,18 @@ abbrev pub checkAnswer : Checked → ℕ
 checkAnswer (C.Accepted a) = a .count
 checkAnswer (C.Refused r) = refused r
 
+-- the lent number: the greatest depth of what is accepted, or no change
+abbrev pub greatestTold : Checked → ℕ → ℕ
+greatestTold (C.Accepted a) g = a .greatest
+greatestTold (C.Refused r) g = g
+
 -- n is the number of an answer that the checker promises, d′ the depths that it leaves in d and w′ what it leaves in
 -- the work slice w
-pub record ChecksTold (s st d d′ w w′ : List ℕ) (n : ℕ) : Type 0 where
+pub record ChecksTold (s st d d′ w w′ : List ℕ) (g g′ n : ℕ) : Type 0 where
   pub answer : Checked
   pub promise : Promise lastOpcode s st d d′ w w′ answer
   pub number : n ≡ checkAnswer answer
+  pub greatest : g′ ≡ greatestTold answer g
 
 -- a reason's numbers: its kind, the offset, the depth there, and the other depth, 0 where there is none
 abbrev pub reasonNumbers : Reason → List ℕ
@@ -43,14 +50,16 @@ reasonCells (E.Accepted a) told = told
 reasonCells (E.Refused q) told = told
 reasonCells (E.Unsolved why) told = front (reasonNumbers why) told
 
--- a check's answer with its reason, of which `Explains` speaks, told over the lent cells: the number is the check's
-pub record ReasonTold (s st d d′ w w′ told : List ℕ) (n : ℕ) (told′ : List ℕ) : Type 0 where
+-- a check's answer with its reason, of which `Explains` speaks, told over the lent cells: the number and the greatest
+-- depth are the check's
+pub record ReasonTold (s st d d′ w w′ told told′ : List ℕ) (g g′ n : ℕ) : Type 0 where
   pub answer : Explained
   pub explains : Explains lastOpcode s st d d′ w w′ answer
   pub number : n ≡ checkAnswer (answerOf answer)
+  pub greatest : g′ ≡ greatestTold (answerOf answer) g
   pub cells : told′ ≡ reasonCells answer told
 
 -- where there are too few cells to tell a reason, 18 first, and nothing is checked
-pub record ExplainsTold (s st d d′ w w′ told : List ℕ) (n : ℕ) (told′ : List ℕ) : Type 0 where
-  pub few : length told < 4 → (n ≡ refused (Full Text)) × (d′ ≡ d) × (w′ ≡ w) × (told′ ≡ told)
-  pub enough : 4 ≤ length told → ReasonTold s st d d′ w w′ told n told′
+pub record ExplainsTold (s st d d′ w w′ told told′ : List ℕ) (g g′ n : ℕ) : Type 0 where
+  pub few : length told < 4 → (n ≡ refused (Full Text)) × (d′ ≡ d) × (w′ ≡ w) × (g′ ≡ g) × (told′ ≡ told)
+  pub enough : 4 ≤ length told → ReasonTold s st d d′ w w′ told told′ g g′ n

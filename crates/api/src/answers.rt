@@ -7,9 +7,10 @@ ghost use Rattle.op.specs.Refusals.{half};
 ghost use Rattle.op.specs.declared.AssertFlags.the-variants.{Valid};
 ghost use Rattle.code.specs.Bytes.{front};
 ghost use Rattle.api.specs.Answers.{refused, netAnswer, depthAnswer};
-ghost use Rattle.api.specs.Checks.{checkAnswer};
+ghost use Rattle.api.specs.Checks.{checkAnswer, greatestTold};
 ghost use Rattle.api.specs.Given.{flagsAnswer};
 ghost use Rattle.api.specs.Typed.{readAnswer};
+use checker::Assignment;
 use checker::Checked;
 use op::After;
 use op::Compared;
@@ -45,12 +46,21 @@ pub fn of_depth(after: After) -> u64
     }
 }
 
-// A check's answer.
-pub fn of_checked(checked: Checked) -> u64
-    ensures { λ r. ⌜ r ≡ checkAnswer checked ⌝ }
+// Tells what was accepted: the count, and the greatest depth.
+pub fn tell_accepted(assignment: Assignment, greatest: &mut u32) -> u64
+    ensures { λ r. ⌜ (r ≡ assignment .count) × (now (greatest .exit) ≡ assignment .greatest) ⌝ }
+{
+    *greatest = assignment.greatest;
+    assignment.count as u64
+}
+
+// Tells a check's answer.
+pub fn tell_checked(checked: Checked, greatest: &mut u32) -> u64
+    ensures { λ r. ⌜ (r ≡ checkAnswer checked)
+        × (now (greatest .exit) ≡ greatestTold checked (now (greatest .entry))) ⌝ }
 {
     match checked {
-        Checked::Accepted(assignment) => assignment.count as u64,
+        Checked::Accepted(assignment) => tell_accepted(assignment, greatest),
         Checked::Refused(refusal) => refused(refusal),
     }
 }

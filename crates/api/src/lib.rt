@@ -242,12 +242,18 @@ pub extern "C" fn tf_write(
 }
 
 #[no_mangle]
-pub extern "C" fn tf_check(code: &[u8], starts: &[u32], depths: &mut [u32], work: &mut [u32]) -> u64
+pub extern "C" fn tf_check(
+    code: &[u8],
+    starts: &[u32],
+    depths: &mut [u32],
+    work: &mut [u32],
+    greatest: &mut u32,
+) -> u64
     ensures { λ r. ⌜ ChecksTold (now (code .entry)) (now (starts .entry)) (now (depths .entry)) (now (depths .exit))
-        (now (work .entry)) (now (work .exit)) r ⌝ }
+        (now (work .entry)) (now (work .exit)) (now (greatest .entry)) (now (greatest .exit)) r ⌝ }
 {
     let checked = checker::check(code, starts, depths, work);
-    answers::of_checked(checked)
+    answers::tell_checked(checked, greatest)
 }
 
 #[no_mangle]
@@ -256,15 +262,17 @@ pub extern "C" fn tf_explain(
     starts: &[u32],
     depths: &mut [u32],
     work: &mut [u32],
+    greatest: &mut u32,
     told: &mut [u64],
 ) -> u64
     ensures { λ r. ⌜ ExplainsTold (now (code .entry)) (now (starts .entry)) (now (depths .entry)) (now (depths .exit))
-        (now (work .entry)) (now (work .exit)) (now (told .entry)) r (now (told .exit)) ⌝ }
+        (now (work .entry)) (now (work .exit)) (now (told .entry)) (now (told .exit)) (now (greatest .entry))
+        (now (greatest .exit)) r ⌝ }
 {
     if told.len() < 4 {
         return answers::refused(Refusal::Full(Table::Text));
     }
-    reasons::tell_explained(checker::explain(code, starts, depths, work), told)
+    reasons::tell_explained(checker::explain(code, starts, depths, work), greatest, told)
 }
 
 #[no_mangle]

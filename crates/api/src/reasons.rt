@@ -6,7 +6,7 @@ ghost use Rattle.op.specs.declared.Refusal.the-variants.{NoDepths};
 ghost use Rattle.code.specs.Bytes.{front};
 ghost use Rattle.checker.specs.Reasons.{answerOf};
 ghost use Rattle.api.specs.Answers.{refused};
-ghost use Rattle.api.specs.Checks.{checkAnswer, reasonNumbers, reasonCells};
+ghost use Rattle.api.specs.Checks.{checkAnswer, greatestTold, reasonNumbers, reasonCells};
 use crate::answers;
 use crate::cells;
 use checker::Explained;
@@ -37,13 +37,14 @@ fn tell_reason(reason: Reason, out: &mut [u64]) -> u64
 }
 
 // Tells a check's answer, and on 23 the reason.
-pub fn tell_explained(explained: Explained, out: &mut [u64]) -> u64
+pub fn tell_explained(explained: Explained, greatest: &mut u32, out: &mut [u64]) -> u64
     requires { ⌜ 4 ≤ length (now out) ⌝ }
     ensures { λ r. ⌜ (r ≡ checkAnswer (answerOf explained))
+        × (now (greatest .exit) ≡ greatestTold (answerOf explained) (now (greatest .entry)))
         × (now (out .exit) ≡ reasonCells explained (now (out .entry))) ⌝ }
 {
     match explained {
-        Explained::Accepted(assignment) => assignment.count as u64,
+        Explained::Accepted(assignment) => answers::tell_accepted(assignment, greatest),
         Explained::Refused(refusal) => answers::refused(refusal),
         Explained::Unsolved(reason) => tell_reason(reason, out),
     }

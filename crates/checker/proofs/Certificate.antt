@@ -25,12 +25,14 @@ use Rattle.code.specs.declared.Goal.the-variants.{Nowhere, To, Outside}
 use Rattle.code.specs.Flow.{flowOf}
 use Rattle.code.specs.Depths.{Stands, Place, Begins, Leads, Falls, Jumps, Kept, Assigns, Derived}
 use Rattle.code.proofs.Assigning.{leads-is, smallest, clash-depths}
+use Rattle.checker.specs.declared.Assignment.{Assignment}
 use Rattle.checker.specs.declared.Checked.{Checked}
 use Rattle.checker.specs.declared.Checked.the-variants.{Accepted, Refused}
 use Rattle.checker.specs.Cells.{cell, depthIn, held}
 use Rattle.checker.specs.Promise.{Listed, Solution, Promise}
 use Rattle.checker.specs.Statements.{Same}
-use Rattle.checker.specs.Inner.{NoFault}
+use Rattle.checker.specs.Inner.{NoFault, greatestIn}
+use Rattle.checker.proofs.Deepest.{greatest-in}
 use Rattle.checker.proofs.Holding.{depth-in, in-depth, cell-in}
 use Rattle.checker.proofs.Solutions.{counted}
 use Rattle.checker.proofs.Promising.{promise-some, promise-none, promise-one}
@@ -140,10 +142,14 @@ module _ (last : ℕ) (s st : List ℕ) (t : T (inputOk last s st)) where
 
 -- what the test shows
 
+-- the count and the greatest depth of cells
+abbrev pub foundIn : List ℕ → List ℕ → Assignment
+foundIn s c = record { count = held (take (length s) c); greatest = greatestIn c }
+
 pub record Certified (last : ℕ) (s st c : List ℕ) : Type 0 where
   pub whole : NoFault last s
   pub listed : Listed last s st
-  pub solution : Solution last s st c (record { count = held (take (length s) c) })
+  pub solution : Solution last s st c (foundIn s c)
 
 module _ (last : ℕ) (s st c : List ℕ) (k : ℕ) (input : T (inputOk last s st))
     (size : T (eqb (length c) (suc (length s))))
@@ -216,6 +222,7 @@ module _ (last : ℕ) (s st c : List ℕ) (k : ℕ) (input : T (inputOk last s s
           others = cell-small;
           derived = cell-derived;
           count = counted c (input-whole last s st input) cells-assign e;
+          greatest = greatest-in c cell-small;
         };
       }
 
@@ -236,13 +243,13 @@ certified last s st c k t =
 pub must-accept : (last : ℕ) (s st c : List ℕ) (k : ℕ) → T (certificate last s st c k) → length s ≤ 1048576
     → (d d′ w w′ : List ℕ) (r : Checked) → length s < length d → length s < length w
     → Promise last s st d d′ w w′ r
-    → Same r (Accepted (record { count = held (take (length s) c) })) d′ (c ++ drop (suc (length s)) d)
+    → Same r (Accepted (foundIn s c)) d′ (c ++ drop (suc (length s)) d)
     w′ (replicate (suc (length s)) 0 ++ drop (suc (length s)) w)
 must-accept last s st c k t l d d′ w w′ r room space P =
     let C = certified last s st c k t in
     let e = c ++ drop (suc (length s)) d in
     let z = replicate (suc (length s)) 0 ++ drop (suc (length s)) w in
-    promise-one last s st d d′ e w w′ z r (Accepted (record { count = held (take (length s) c) })) P
+    promise-one last s st d d′ e w w′ z r (Accepted (foundIn s c)) P
     (promise-some last s st d w l room space e z refl (C .whole) (C .listed) c _ (C .solution) refl)
 
 -- two paths of at most k steps bring two depths to one offset

@@ -1,4 +1,5 @@
 pub mod Holding
+pub mod Deepest
 pub mod Growing
 pub mod Visiting
 pub mod Draining
@@ -6,5 +7,6 @@ pub mod Walking
 pub mod Solutions
 pub mod Reasoning
 pub mod Promising
+pub mod Pathing
 pub mod Reaching
 pub mod Certificate

@@ -35,6 +35,7 @@ use Rattle.checker.specs.Promise.{stops, passes, Promise, builtSound, Bu
 use Rattle.checker.specs.Reasons.{Explains, answerOf}
 use Rattle.checker.specs.Statements.{Same, PromiseOne, BuiltOne, ExplainOne}
 use Rattle.checker.specs.Inner.{NoFault, Examined}
+use Rattle.checker.proofs.Deepest.{greatest-one, assignment-one}
 use Rattle.checker.proofs.Holding.{depth-in, in-depth}
 use Rattle.checker.proofs.Reasoning.{because-impossible, fault-not}
 
@@ -202,7 +203,7 @@ unless-one one both on (passes m a) (passes n b) = on a b
 named-one : (x : Refusal) (p q : Refusal) → p ≡ x → q ≡ x → p ≡ q
 named-one x p q e h = e ∙ sym h
 
--- two solutions are the same cells, with the same count
+-- two solutions are the same cells, with the same count and the same greatest depth
 
 cell-one : (a b : List ℕ) (o : ℕ) → depthIn a o ≡ depthIn b o → cell a o ≤ 65536 → cell b o ≤ 65536
     → cell a o ≡ cell b o
@@ -221,10 +222,9 @@ module _ {last : ℕ} {s st c e : List ℕ} {a b : Assignment} (A : Solution las
         (λ o l. cell-one c e o (smallest-agree (A .smallest) (B .smallest) o) (A .others o) (B .others o))
 
     solution-one : a ≡ b
-    solution-one = ap made (counts-one (smallest-agree (A .smallest) (B .smallest)) (A .count) (B .count))
-      where
-        made : ℕ → Assignment
-        made k = record { count = k }
+    solution-one =
+        let same = smallest-agree (A .smallest) (B .smallest) in
+        assignment-one (counts-one same (A .count) (B .count)) (greatest-one same (A .greatest) (B .greatest))
 
 pub promise-one : PromiseOne
 unfolding Promise

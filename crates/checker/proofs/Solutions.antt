@@ -1,4 +1,4 @@
--- From all that follows from the starts to the smallest assignment and its count.
+-- From all that follows from the starts to the smallest assignment, its count and its greatest depth.
 -- Assumes nothing.
 use mathlib.Core.Path.{_≡_, refl, sym, ap, subst, _∙_}
 use mathlib.Core.Bool.{Bool, true, false, cond}
@@ -22,8 +22,9 @@ use Rattle.code.proofs.Assigning.{smallest}
 use Rattle.code.proofs.Counting.{rising-lower}
 use Rattle.code.proofs.Places.{stands-size, ends-over, faulty-at}
 use Rattle.checker.specs.Cells.{cell, depthIn, held}
-use Rattle.checker.specs.Promise.{Solution}
-use Rattle.checker.specs.Inner.{NoFault, Reached}
+use Rattle.checker.specs.Promise.{Greatest, Solution}
+use Rattle.checker.specs.Inner.{NoFault, Reached, greatestIn}
+use Rattle.checker.proofs.Deepest.{greatest-in}
 use Rattle.checker.proofs.Holding.{depth-in, in-depth}
 
 -- the count: the offsets from i on of the cells that hold a depth
@@ -131,10 +132,10 @@ module _ {last : ℕ} {s st : List ℕ} (c : List ℕ) (whole : NoFault last s) 
   }
 
 -- all that follows from the starts is the solution
-pub solution : {last : ℕ} {s st c : List ℕ} {n k : ℕ} → NoFault last s → Reached last s st c n
-    → length c ≡ suc (length s) → k ≡ held (take (length c - 1) c)
-    → Solution last s st c (record { count = k })
-solution {last} {s} {c} whole A e h =
+pub solution : {last : ℕ} {s st c : List ℕ} {n k g : ℕ} → NoFault last s → Reached last s st c n
+    → length c ≡ suc (length s) → k ≡ held (take (length c - 1) c) → g ≡ greatestIn c
+    → Solution last s st c (record { count = k; greatest = g })
+solution {last} {s} {c} whole A e h z =
     let y : length c - 1 ≡ length s = omega arith in
     record {
       size = e;
@@ -143,4 +144,5 @@ solution {last} {s} {c} whole A e h =
       derived = A .sound .derived;
       count = subst (Counts last s (depthIn c)) (sym (h ∙ ap (λ (n : ℕ). held (take n c)) y))
           (counted c whole (A .assigns) e);
+      greatest = subst (Greatest (depthIn c)) (sym z) (greatest-in c (A .sound .small));
     }

@@ -2,11 +2,12 @@
 -- of the code and its end before a call, c′ after it, w and w′ the work cells beside them.
 -- Assumes nothing.
 use mathlib.Core.Path.{_≡_}
-use mathlib.Core.Bool.{Bool, true, false}
-use mathlib.Core.List.{List}
+use mathlib.Core.Bool.{Bool, true, false, cond}
+use mathlib.Core.List.{List, [], _∷_}
 use mathlib.Core.Logic.{_⊎_}
 use mathlib.Core.Option.{some}
-use Prim.Native.Nat.{ℕ, suc, _+_, _-_, _*_, _/_, _%_, _≤_, _<_}
+use Prim.Native.Nat.{ℕ, suc, _+_, _-_, _*_, _/_, _%_, _≤_, _<_, max}
+use lib.Dec.{leb}
 use lib.ListN.{length, getD, set, replicate}
 use Rattle.op.specs.declared.Refusal.{Refusal}
 use Rattle.code.specs.declared.Change.{Change}
@@ -32,6 +33,18 @@ use Rattle.checker.specs.declared.Went.the-variants.{On, Stuck}
 use Rattle.checker.specs.Cells.{cell, depthIn, held}
 use Rattle.checker.specs.Promise.{Listed, Astray, Solution}
 use Rattle.checker.specs.Reasons.{Leaves, Because}
+
+-- the greater of a depth and the one that a cell holds; 65,536 counts as 0
+abbrev pub greater : ℕ → ℕ → ℕ
+greater most x = max most (x % noDepth)
+
+-- the greatest depth of some cells and one more depth; of the cells alone
+unfoldable pub greatestFrom : ℕ → List ℕ → ℕ
+greatestFrom most [] = most
+greatestFrom most (x ∷ xs) = greatestFrom (greater most x) xs
+
+abbrev pub greatestIn : List ℕ → ℕ
+greatestIn c = greatestFrom 0 c
 
 -- the depths so far: each is a place's, and derived
 pub record Sound (last : ℕ) (s st c : List ℕ) : Type 0 where

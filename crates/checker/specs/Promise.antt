@@ -5,7 +5,7 @@ use mathlib.Core.Path.{_≡_}
 use mathlib.Core.Bool.{Bool, false, _&&_}
 use mathlib.Core.List.{List, _++_}
 use mathlib.Core.Logic.{_⊎_}
-use mathlib.Core.Option.{some}
+use mathlib.Core.Option.{Option, some, none}
 use Prim.Native.Nat.{ℕ, suc, _+_, _*_, _%_, _≤_, _<_}
 use lib.ListN.{length, getD, take, drop, replicate}
 use Rattle.op.specs.Depths.{deepest}
@@ -41,14 +41,20 @@ Astray last s st q = (q ≡ BadStarts) × (Listed last s st → ⊥)
 abbrev pub Unsolved : ℕ → List ℕ → List ℕ → Refusal → Type 0
 Unsolved last s st q = (q ≡ NoDepths) × Impossible last s st
 
+-- "the greatest depth that it assigned, 0 where it assigned none" (R75)
+pub record Greatest (a : ℕ → Option ℕ) (g : ℕ) : Type 0 where
+  pub most : (o d : ℕ) → a o ≡ some d → d ≤ g
+  pub assigned : ((o : ℕ) × (a o ≡ some g)) ⊎ ((g ≡ 0) × ((o : ℕ) → a o ≡ none))
+
 -- "The first code+1 cells then hold the smallest one, .. and 65,536 where there is no depth" (R50); each depth is
--- derived, and the answer counts the instructions that have one
+-- derived, the answer counts the instructions that have one and says the greatest
 pub record Solution (last : ℕ) (s st c : List ℕ) (a : Assignment) : Type 0 where
   pub size : length c ≡ suc (length s)
   pub smallest : Smallest last s st (depthIn c)
   pub others : (o : ℕ) → cell c o ≤ noDepth
   pub derived : (o d : ℕ) → depthIn c o ≡ some d → Derived last s st o d
   pub count : Counts last s (depthIn c) (a .count)
+  pub greatest : Greatest (depthIn c) (a .greatest)
 
 -- the first code+1 cells of a slice became c: "later cells never change" (R52)
 abbrev pub Became : List ℕ → List ℕ → List ℕ → List ℕ → Type 0

@@ -3,6 +3,8 @@ ghost use mathlib.Core.Path.{_≡_};
 ghost use Prim.Native.Nat.{_-_, _<_};
 ghost use lib.ListN.{length, replicate, take};
 ghost use Rattle.checker.specs.Cells.{held};
+ghost use Rattle.checker.specs.Inner.{greater, greatestIn};
+use code::NO_DEPTH;
 use code::WORD_MAX;
 
 // Each cell gets one value.
@@ -26,4 +28,29 @@ pub fn before_last(cells: &[u32], all: usize) -> usize
         return all - 1;
     }
     all
+}
+
+// The greater of a depth and the one that a cell holds; 65,536, where it holds none, counts as 0. A remainder and no test,
+// so that the compiler looks at several cells at once.
+fn greater(most: u32, holds: u32) -> u32
+    ensures { λ r. ⌜ r ≡ greater most holds ⌝ }
+{
+    let depth = holds % NO_DEPTH;
+    if most < depth {
+        return depth;
+    }
+    most
+}
+
+// The greatest depth that the cells hold, 0 where they hold none.
+pub fn greatest(cells: &[u32]) -> u32
+    ensures { λ r. ⌜ r ≡ greatestIn (now (cells .entry)) ⌝ }
+{
+    let mut most = 0;
+    let mut o = 0;
+    while o < cells.len() {
+        most = greater(most, cells[o]);
+        o += 1;
+    }
+    most
 }

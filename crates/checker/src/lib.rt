@@ -18,6 +18,8 @@ mod walks;
 pub struct Assignment {
     // how many instructions have a depth
     pub count: usize,
+    // the greatest depth, the end's among them; 0 where there is none
+    pub greatest: u32,
 }
 
 // What a check answers.

@@ -15,7 +15,7 @@ use crate::walks;
 use code::NO_DEPTH;
 use op::Refusal;
 
-// The smallest assignment and its count, or why there is none.
+// The smallest assignment with its count and its greatest depth, or why there is none.
 fn solve(code: &[u8], starts: &[u32], cells: &mut [u32], work: &mut [u32]) -> Explained
     requires { ⌜ Fitted (now code) (now cells) (now work) × NoFault lastOpcode (now code)
         × Marked lastOpcode (now code) (now work) × Listed lastOpcode (now code) (now starts) ⌝ }
@@ -31,6 +31,7 @@ fn solve(code: &[u8], starts: &[u32], cells: &mut [u32], work: &mut [u32]) -> Ex
         }
         Went::On(taken) => Explained::Accepted(Assignment {
             count: cells::before_last(cells, taken),
+            greatest: cells::greatest(cells),
         }),
     }
 }

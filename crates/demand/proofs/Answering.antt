@@ -22,20 +22,22 @@ use Rattle.checker.specs.Promise.{Promise, stops, passes, builtSound, BuiltProm
 use Rattle.checker.specs.declared.Assignment.{Assignment}
 use Rattle.checker.specs.declared.Checked.{Checked}
 use Rattle.checker.specs.declared.Checked.the-variants as C
+use Rattle.checker.proofs.Deepest.{greatest-one, assignment-one}
 use Rattle.checker.proofs.Holding.{depth-in, in-depth}
 use Rattle.checker.proofs.Promising.{accepted-when}
 use Rattle.demand.specs.Machine.{isa}
 use Rattle.demand.specs.History.{Row, depthAt}
-use Rattle.demand.specs.Demand.{cells, cellOf}
+use Rattle.demand.specs.Demand.{cells, cellOf, deepestSeen}
 use Rattle.demand.proofs.Book.{Book, Good}
 use Rattle.demand.proofs.Bytes.{bytesOf, Closed}
+use Rattle.demand.proofs.Deepest.{greatest-seen}
 use Rattle.demand.proofs.Machining.{laws}
 use Rattle.demand.proofs.Standing.{code-length, whole}
 use Rattle.demand.proofs.Finish.{depths, assigned, least, derives, listed, counted}
 
--- an assignment of so many instructions
-abbrev counting : ℕ → Assignment
-counting k = record { count = k }
+-- an assignment of so many instructions, with a greatest depth
+abbrev assigning : ℕ → ℕ → Assignment
+assigning k g = record { count = k; greatest = g }
 
 cell-of : (c : List ℕ) (o : ℕ) (x : Option ℕ) → depthIn c o ≡ x → cell c o ≤ 65536 → cell c o ≡ cellOf x
 cell-of c o (some d) e l = in-depth c o d e .0
@@ -48,7 +50,7 @@ module _ (b : Book isa) (g : Good isa laws b)
     (closed : (r : Row isa) → Mem r (b .rows) → Closed isa laws (r .offset) (r .what)) where
   checked : b .len ≤ codeLimit → (d d′ w w′ : List ℕ) (r : Checked) → b .len < length d → b .len < length w
       → Promise lastOpcode (bytesOf isa (b .rows)) (cells (b .starts)) d d′ w w′ r
-      → (r ≡ C.Accepted (counting (length (b .rows))))
+      → (r ≡ C.Accepted (assigning (length (b .rows)) (deepestSeen (b .rows) (b .cur))))
       × ((o : ℕ) → o ≤ b .len → cell d′ o ≡ cellOf (depths b g closed o))
   checked short d d′ w w′ r room space P =
       let z : length (bytesOf isa (b .rows)) ≡ b .len = code-length (b .rows) (b .len) (g .chain) closed in
@@ -56,8 +58,10 @@ module _ (b : Book isa) (g : Good isa laws b)
       (listed b g closed) (depths b g closed) (assigned b g closed) in
       let c = a .cells in
       let s = a .solution in
-      let same = smallest-agree (s .smallest) (least b g closed) in (
-        a .answer ∙ ap (λ (k : ℕ). C.Accepted (counting k)) (counts-one same (s .count) (counted b g closed)),
+      let same = smallest-agree (s .smallest) (least b g closed) in
+      let count = counts-one same (s .count) (counted b g closed) in
+      let greatest = greatest-one same (s .greatest) (greatest-seen (b .rows) (b .len) (b .cur) (g .chain)) in (
+        a .answer ∙ ap C.Accepted (assignment-one count greatest),
         λ o l. ap (λ (x : List ℕ). getD x o 65536) (a .became)
             ∙ List·getD-append c (drop (suc (length (bytesOf isa (b .rows)))) d) 65536 o (omega (arith, s .size, z))
             ∙ cell-of c o (depths b g closed o) (same o) (s .others o),
@@ -74,7 +78,7 @@ module _ (b : Book isa) (g : Good isa laws b)
 
       pub checked-at : b .len ≤ codeLimit → (d d′ w w′ : List ℕ) (r : Checked) → n < length d → n < length w
           → Promise lastOpcode s st d d′ w w′ r
-          → (r ≡ C.Accepted (counting (length (b .rows))))
+          → (r ≡ C.Accepted (assigning (length (b .rows)) (deepestSeen (b .rows) (b .cur))))
           × ((o : ℕ) → o ≤ n → cell d′ o ≡ cellOf (depthAt isa (b .rows) n (b .cur) o))
       checked-at short = rw (es, et, en) (checked short)
 

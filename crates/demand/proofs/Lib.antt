@@ -5,6 +5,7 @@ pub mod Events
 pub mod Patch
 pub mod Bytes
 pub mod Machining
+pub mod Deepest
 pub mod View
 pub mod Tabs
 pub mod Idle

@@ -14,10 +14,11 @@ use Rattle.demand.specs.Prefixes.{WellFormed, allBytes, PrefixFree, OneL
 use Rattle.demand.proofs.Machining.{read-formed, encode-some}
 
 -- code begins with one instruction only
-same-first : (i j : Instruction) (r q : List ℕ) → WellFormed i → WellFormed j → isa .bytes i ++ r ≡ isa .bytes j ++ q
-    → (i ≡ j) × (r ≡ q)
-same-first i j r q f g e =
-    let same = sym (read-formed 0 i f r) ∙ ap (instructionsFrom lastOpcode 0) e ∙ read-formed 0 j g q in
+same-first : (last : ℕ) (i j : Instruction) (r q : List ℕ) → WellFormed last i → WellFormed last j
+    → isa .bytes i ++ r ≡ isa .bytes j ++ q → (i ≡ j) × (r ≡ q)
+same-first last i j r q f g e =
+    let same = sym (read-formed 0 i (f .formed) r) ∙ ap (instructionsFrom lastOpcode 0) e
+    ∙ read-formed 0 j (g .formed) q in
     let spot = head-eq-of-cons-eq (ap (λ (read : Read). read .spots) same) in
     let k : i ≡ j = ap (λ (x : Spot). x .what) spot in
     let n : length (isa .bytes j) ≡ length (isa .bytes i) = sym (ap (λ (x : Spot). x .size) spot) in (
@@ -27,7 +28,7 @@ same-first i j r q f g e =
     )
 
 pub prefix-free : PrefixFree
-prefix-free i j r f g e = same-first i j r [] f g (e ∙ sym (append-nil (isa .bytes j)))
+prefix-free last i j r f g e = same-first last i j r [] f g (e ∙ sym (append-nil (isa .bytes j)))
 
 not-empty : (i : Instruction) (l : List ℕ) → isa .bytes i ++ l ≡ [] → ⊥
 not-empty i l e =
@@ -35,9 +36,9 @@ not-empty i l e =
     omega (arith, length-append (isa .bytes i) l, encode-some (i .opcode) (i .operand) (i .names))
 
 pub one-list : OneList
-one-list [] [] f g e = refl
-one-list [] (j ∷ js) f g e = absurd (not-empty j (allBytes js) (sym e))
-one-list (i ∷ is) [] f g e = absurd (not-empty i (allBytes is) e)
-one-list (i ∷ is) (j ∷ js) f g e =
-    let s = same-first i j (allBytes is) (allBytes js) (f i (mhead refl)) (g j (mhead refl)) e in
-    rw (s .0, one-list is js (λ x m. f x (mtail m)) (λ x m. g x (mtail m)) (s .1)) refl
+one-list last [] [] f g e = refl
+one-list last [] (j ∷ js) f g e = absurd (not-empty j (allBytes js) (sym e))
+one-list last (i ∷ is) [] f g e = absurd (not-empty i (allBytes is) e)
+one-list last (i ∷ is) (j ∷ js) f g e =
+    let s = same-first last i j (allBytes is) (allBytes js) (f i (mhead refl)) (g j (mhead refl)) e in
+    rw (s .0, one-list last is js (λ x m. f x (mtail m)) (λ x m. g x (mtail m)) (s .1)) refl

@@ -7,7 +7,7 @@ use mathlib.Core.Path.{_≡_}
 use mathlib.Core.List.{List, [], _∷_, List·Memᴰ}
 use mathlib.Core.Logic.{_↔_}
 use mathlib.Core.Option.{Option, some, none}
-use Prim.Native.Nat.{ℕ, _*_, _≤_, _<_}
+use Prim.Native.Nat.{ℕ, _*_, _≤_, _<_, max}
 use contract.Lifetimes.{Lfts}
 use lib.ListN.{length, take}
 use Rattle.op.specs.Opcodes.{lastOpcode}
@@ -19,6 +19,7 @@ use Rattle.builder.specs.declared.Depth.{Depth}
 use Rattle.builder.specs.declared.Depth.the-variants.{Dead, Live}
 use Rattle.builder.proofs.Builder.new.Reads.{Learnt as new-says}
 use Rattle.checker.specs.Cells.{cell}
+use Rattle.checker.specs.declared.Assignment.{Assignment}
 use Rattle.checker.specs.declared.Checked.{Checked}
 use Rattle.checker.specs.declared.Checked.the-variants as C
 use Rattle.checker.proofs.check.Reads.{Learnt as check-says}
@@ -68,10 +69,20 @@ abbrev pub cellOf : Option ℕ → ℕ
 cellOf none = noDepth
 cellOf (some d) = d
 
--- a check accepts, with these depths in its cells, and counts as many instructions as the history has
+-- the greatest depth that a history shows: before an instruction, or at a live end; 0 where it shows none
+abbrev pub deepestSeen : List (Row isa) → Depth → ℕ
+deepestSeen [] Dead = 0
+deepestSeen [] (Live d) = d
+deepestSeen (r ∷ rs) here = max (r .depth) (deepestSeen rs here)
+
+-- as many instructions as the history has, and the greatest depth that it shows
+abbrev pub seenIn : World → History → Assignment
+seenIn w h = record { count = length (h .rows); greatest = deepestSeen (h .rows) (w .state .core .depth) }
+
+-- a check accepts, with these depths in its cells, and answers what the history has
 abbrev pub AcceptsAs : World → History → Checked → List ℕ → Type 0
 AcceptsAs w h r checked =
-    (r ≡ C.Accepted (record { count = length (h .rows) })) × ((o : ℕ) → o ≤ length (finished w) → cell checked o ≡ cellOf (depths w h o))
+    (r ≡ C.Accepted (seenIn w h)) × ((o : ℕ) → o ≤ length (finished w) → cell checked o ≡ cellOf (depths w h o))
 
 -- of the world w that the calls left, the world w′ behind `build`, and the history h of the calls
 pub record Demand (w w′ : World) (h : History) : Type 0 where

@@ -25,6 +25,7 @@ use Rattle.builder.specs.Back.{emitJumpToOf, jumpToCore, toPlanOf}
 use Rattle.builder.specs.Patch.{markPlanOf, patchJumpOf, patchPlanOf}
 use Rattle.builder.specs.Constants.{addConstOf}
 use Rattle.checker.specs.Cells.{held}
+use Rattle.checker.specs.Inner.{greatestFrom}
 use Rattle.checker.proofs.Certificate.{certificate, must-accept, must-refuse}
 use Rattle.examples.specs.Table.{Examples, code-a, code-k, from-zero}
 
@@ -32,7 +33,8 @@ pub hold : Examples
 unfolding landing effectBy effectOf takenOf deadMaker table known rowOf shapeOf sizeOf signed operandIn decode stepIn
     shapeUpTo encode findFrom tableOf goalBy flowOf coversOf firstCovering handlerOf first put soundOf behind
     emittingOf enterOf planOf emitCore emitNamed markOf markIn fits markable near bits jumpPlanOf emitJumpOf toPlanOf
-    jumpToCore emitJumpToOf markPlanOf patchPlanOf patchJumpOf addConstOf held instructionsFrom readUpTo certificate
+    jumpToCore emitJumpToOf markPlanOf patchPlanOf patchJumpOf addConstOf held greatestFrom instructionsFrom readUpTo
+    certificate
 hold = record {
   a = λ d d′ w w′ r room space P. must-accept _ code-a from-zero (0 ∷ 1 ∷ 65536 ∷ 65536 ∷ 0 ∷ 65536 ∷ 1 ∷ 0 ∷ 1 ∷ 65536 ∷ []) 6 tt (omega arith) d d′ w w′ r room space P;
   b = (refl, λ code n. rw n refl);

@@ -76,9 +76,9 @@ Checks code starts answer depths =
     → (r ≡ answer) × (d′ ≡ depths ++ drop (length depths) d)
     × (w′ ≡ replicate (length depths) 0 ++ drop (length depths) w)
 
--- accepted, and so many instructions have a depth
-abbrev pub accepted : ℕ → Checked
-accepted count = C.Accepted (record { count = count })
+-- accepted: so many instructions have a depth, and so great is the greatest
+abbrev pub accepted : ℕ → ℕ → Checked
+accepted count greatest = C.Accepted (record { count = count; greatest = greatest })
 
 -- A's nine bytes
 abbrev pub code-a : List ℕ
@@ -106,8 +106,8 @@ rows = tableOf entries
 
 -- the twelve (R61)
 pub record Examples : Type 0 where
-  -- A: depths 0, 1, 0, 1, 0, 1 at 0, 1, 4, 6, 7, 8; end none; count 6
-  pub a : Checks code-a from-zero (accepted 6) (0 ∷ 1 ∷ 65536 ∷ 65536 ∷ 0 ∷ 65536 ∷ 1 ∷ 0 ∷ 1 ∷ 65536 ∷ [])
+  -- A: depths 0, 1, 0, 1, 0, 1 at 0, 1, 4, 6, 7, 8; end none; count 6; the greatest is 1
+  pub a : Checks code-a from-zero (accepted 6 1) (0 ∷ 1 ∷ 65536 ∷ 65536 ∷ 0 ∷ 65536 ∷ 1 ∷ 0 ∷ 1 ∷ 65536 ∷ [])
   -- B: jump to its own opcode: -3, FD FF
   pub b : (signed 65536 (bits 0 0) ≡ negsuc 2)
       × ((code : List ℕ) → length code ≡ 3
@@ -161,5 +161,5 @@ pub record Examples : Type 0 where
   -- K: 23
   pub k : Checks code-k from-zero (C.Refused NoDepths) (65536 ∷ 65536 ∷ 65536 ∷ 65536 ∷ 65536 ∷ [])
       × (numberOf NoDepths ≡ 23)
-  -- L: no bytes, no starts: accepted, count 0
-  pub l : Checks [] [] (accepted 0) (65536 ∷ [])
+  -- L: no bytes, no starts: accepted, count 0; the greatest is 0
+  pub l : Checks [] [] (accepted 0 0) (65536 ∷ [])

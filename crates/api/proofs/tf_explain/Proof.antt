@@ -12,7 +12,7 @@ refused-requires c κs = search needs
 returns : tie.Need-returns
 returns c =
     record {
-      few = λ h. (c .refused .ensures, refl, refl, refl);
+      few = λ h. (c .refused .ensures, refl, refl, refl, refl);
       enough = λ h. let z : ⊥ = omega (arith, h, c .before .if1 .taken) in absurd z;
     }
 
@@ -34,15 +34,17 @@ same-length-3 c = search needs
 returns-2 : tie.Need-returns-2
 returns-2 c =
     let after-tell-explained = c .before .before in
-    let after-explain = after-tell-explained .before .before .before .before .before .before in
+    let after-explain = after-tell-explained .before .before .before .before .before .before .before in
     let else1 = after-explain .before .before .before in
+    let told = after-tell-explained .tell-explained .ensures in
     record {
       few = λ h. let z : ⊥ = omega (arith, h, else1 .if1 .left) in absurd z;
       enough = λ h. record {
         answer = after-explain .explain .result;
         explains = after-explain .explain .ensures;
-        number = after-tell-explained .tell-explained .ensures .0;
-        cells = after-tell-explained .tell-explained .ensures .1;
+        number = told .0;
+        greatest = told .1;
+        cells = told .2;
       };
     }
 

@@ -17,7 +17,7 @@ mod c {
         pub safe fn tf_decode_assert_flags(flags: u8) -> u8;
         /// `out` has `room` bytes that can be written; it may be null where `room` is 0.
         pub unsafe fn tf_opcode_name(opcode: u8, out: *mut u8, room: usize) -> u64;
-        // Below, each pointer has as many elements behind it as the number after it says.
+        // Below, each pointer has as many elements behind it as the number after it says; `greatest` has one.
         pub unsafe fn tf_step(code: *const u8, length: usize, at: usize, out: *mut u64, room: usize) -> u64;
         pub unsafe fn tf_write(
             out: *mut u8,
@@ -39,6 +39,7 @@ mod c {
             cells: usize,
             work: *mut u32,
             work_cells: usize,
+            greatest: *mut u32,
         ) -> u64;
         pub unsafe fn tf_explain(
             code: *const u8,
@@ -49,6 +50,7 @@ mod c {
             cells: usize,
             work: *mut u32,
             work_cells: usize,
+            greatest: *mut u32,
             told: *mut u64,
             told_cells: usize,
         ) -> u64;
@@ -190,7 +192,16 @@ pub fn write(out: &mut [u8], opcode: u8, shape: u8, fields: Fields, names: &[u16
     })
 }
 
-pub fn check(code: &[u8], starts: &[u32], depths: &mut [u32], work: &mut [u32]) -> Answer {
+/// What a check is lent beside the code and its starts.
+#[derive(Clone, Debug, PartialEq)]
+pub struct Lent {
+    pub depths: Vec<u32>,
+    pub work: Vec<u32>,
+    pub greatest: u32,
+}
+
+pub fn check(code: &[u8], starts: &[u32], lent: &mut Lent) -> Answer {
+    let Lent { depths, work, greatest } = lent;
     // SAFETY: the four slices are as long as is said.
     Answer(unsafe {
         c::tf_check(
@@ -202,11 +213,13 @@ pub fn check(code: &[u8], starts: &[u32], depths: &mut [u32], work: &mut [u32]) 
             depths.len(),
             work.as_mut_ptr(),
             work.len(),
+            greatest,
         )
     })
 }
 
-pub fn explain(code: &[u8], starts: &[u32], depths: &mut [u32], work: &mut [u32], told: &mut [u64]) -> Answer {
+pub fn explain(code: &[u8], starts: &[u32], lent: &mut Lent, told: &mut [u64]) -> Answer {
+    let Lent { depths, work, greatest } = lent;
     // SAFETY: the five slices are as long as is said.
     Answer(unsafe {
         c::tf_explain(
@@ -218,6 +231,7 @@ pub fn explain(code: &[u8], starts: &[u32], depths: &mut [u32], work: &mut [u32]
             depths.len(),
             work.as_mut_ptr(),
             work.len(),
+            greatest,
             told.as_mut_ptr(),
             told.len(),
         )

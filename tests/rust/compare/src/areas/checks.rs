@@ -39,7 +39,7 @@ pub fn run(tally: &mut Tally, plan: &mut Plan) {
     println!("{refusals}");
 }
 
-fn each_code(length: usize, visit: &mut impl FnMut(&[u8])) {
+pub fn each_code(length: usize, visit: &mut impl FnMut(&[u8])) {
     let mut places = vec![0; length];
     loop {
         let code: Vec<u8> = places.iter().map(|&place| BYTES[place]).collect();
@@ -52,6 +52,18 @@ fn each_code(length: usize, visit: &mut impl FnMut(&[u8])) {
     }
 }
 
+/// No start, one or two at the front and behind it, and one that is often no place.
+pub fn few_starts(code: &[u8]) -> [Vec<u32>; 6] {
+    [
+        vec![],
+        vec![0, 0],
+        vec![0, 1],
+        vec![0, 1, 1, 1],
+        vec![code.len() as u32, 2, 0, 1],
+        vec![3, 0],
+    ]
+}
+
 fn hex(code: &[u8]) -> String {
     if code.is_empty() {
         "-".to_owned()
@@ -62,21 +74,15 @@ fn hex(code: &[u8]) -> String {
 
 /// One short code with a few starts; with `search`, also by every assignment.
 fn short(tally: &mut Tally, plan: &mut Plan, script: &mut Script, decoder: &Decoder, code: &[u8], search: bool) {
-    for starts in [
-        vec![],
-        vec![0, 0],
-        vec![0, 1],
-        vec![0, 1, 1, 1],
-        vec![code.len() as u32, 2, 0, 1],
-        vec![3, 0],
-    ] {
+    for starts in few_starts(code) {
         let words: String = starts.iter().map(|number| format!(" {number}")).collect();
         let answer = script.say(format!("check {}{words}", hex(code)));
         if search {
             // One byte moves a depth by one at most, and no start is above 2.
             let searched = Depths::searched(decoder, code, &starts, 2 + code.len() as i64);
             let carried = Depths::new(decoder, code, &starts, code.len() + 1);
-            let told = |depths: Result<Depths, _>| depths.map(|depths| (depths.count(), depths.held()));
+            let told =
+                |depths: Result<Depths, _>| depths.map(|depths| (depths.count(), depths.greatest(), depths.held()));
             tally.compare(told(carried), Expected::by_text(told(searched)), || {
                 format!("{} {words}: {answer}", hex(code))
             });
@@ -87,7 +93,7 @@ fn short(tally: &mut Tally, plan: &mut Plan, script: &mut Script, decoder: &Deco
 }
 
 /// Random instructions with jumps that often lead to instructions, then perhaps a damaged byte.
-fn long(random: &mut Random) -> Case {
+pub fn long(random: &mut Random) -> Case {
     let mut code = Vec::new();
     let mut places = vec![0_u32];
     for _ in 0..random.below(30) {

@@ -1,11 +1,11 @@
-//! The depth checker called by itself, with slices of any length and content, beside the reference: the answer and every
-//! cell of both slices; and the reason that `tf_explain` tells, held against a search.
+//! The depth checker called by itself, with slices of any length and content, beside the reference: the answer, every
+//! cell of both slices and the greatest depth; and the reason that `tf_explain` tells, held against a search.
 
 use std::fmt;
 
 use crate::{
     Plan,
-    proved::{self, Answer},
+    proved::{self, Answer, Lent},
     random::Random,
     reference::{
         Decoder,
@@ -43,8 +43,8 @@ impl fmt::Display for Case {
     }
 }
 
-/// The answer of a check, and what its slices hold behind it.
-type Left = (Answer, Vec<u32>, Vec<u32>);
+/// The answer of a check, and what it was lent as it leaves it.
+type Left = (Answer, Lent);
 
 /// One case with slices of about the length that is asked for.
 pub fn one(tally: &mut Tally, decoder: &Decoder, random: &mut Random, case: &Case) {
@@ -56,20 +56,16 @@ pub fn one(tally: &mut Tally, decoder: &Decoder, random: &mut Random, case: &Cas
 fn lent(tally: &mut Tally, decoder: &Decoder, random: &mut Random, case: &Case, lengths: [usize; 2]) {
     let Case { code, starts } = case;
     let [depths, work] = lengths.map(|length| pattern(random, length));
-    let due = due(decoder, case, depths.clone(), work.clone());
+    let greatest = pattern(random, 1)[0];
+    let lent = Lent { depths, work, greatest };
+    let due = due(decoder, case, lent.clone());
     let shown = |what: &str| format!("{what} of {case}, lent {lengths:?}");
-    let checked = call(&depths, &work, |depths, work| proved::check(code, starts, depths, work));
+    let checked = call(&lent, |lent| proved::check(code, starts, lent));
     tally.compare(&checked, Expected::by_text(&due), || shown("tf_check"));
 
     let mut told = vec![FILLING; [0, 3, 4, 4, 4, 7][random.below(6)]];
-    let explained = call(&depths, &work, |depths, work| {
-        proved::explain(code, starts, depths, work, &mut told)
-    });
-    let due = if told.len() < 4 {
-        (Answer::no_room(), depths, work)
-    } else {
-        due
-    };
+    let explained = call(&lent, |lent| proved::explain(code, starts, lent, &mut told));
+    let due = if told.len() < 4 { (Answer::no_room(), lent) } else { due };
     tally.compare(&explained, Expected::by_text(&due), || shown("tf_explain"));
     reasoned(tally, decoder, case, explained.0.refusal(), &told);
 }
@@ -101,32 +97,35 @@ fn pattern(random: &mut Random, length: usize) -> Vec<u32> {
         .collect()
 }
 
-fn call(depths: &[u32], work: &[u32], check: impl FnOnce(&mut [u32], &mut [u32]) -> Answer) -> Left {
-    let (mut depths, mut work) = (depths.to_vec(), work.to_vec());
-    let answer = check(&mut depths, &mut work);
-    (answer, depths, work)
+fn call(lent: &Lent, check: impl FnOnce(&mut Lent) -> Answer) -> Left {
+    let mut lent = lent.clone();
+    (check(&mut lent), lent)
 }
 
 /// What a check has to leave.
-fn due(decoder: &Decoder, case: &Case, mut depths: Vec<u32>, mut work: Vec<u32>) -> Left {
+fn due(decoder: &Decoder, case: &Case, mut lent: Lent) -> Left {
     let used = case.code.len() + 1;
-    let checked = Depths::new(decoder, &case.code, &case.starts, depths.len().min(work.len()));
+    let cells = lent.depths.len().min(lent.work.len());
+    let checked = Depths::new(decoder, &case.code, &case.starts, cells);
     if !matches!(checked, Err((10 | 21, _))) {
-        work[..used].fill(0);
+        lent.work[..used].fill(0);
     }
     let answer = match checked {
         Err((number, offset)) => Answer::naming(number, offset.unwrap_or(0) as u32),
         Ok(checked) => {
-            for (cell, held) in depths.iter_mut().zip(checked.held()) {
+            for (cell, held) in lent.depths.iter_mut().zip(checked.held()) {
                 *cell = held as u32;
             }
             match checked.count() {
-                Some(count) => Answer::accepted(count as i32),
+                Some(count) => {
+                    lent.greatest = checked.greatest() as u32;
+                    Answer::accepted(count as i32)
+                }
                 None => Answer::refused(23),
             }
         }
     };
-    (answer, depths, work)
+    (answer, lent)
 }
 
 fn holds(decoder: &Decoder, case: &Case, reason: reasons::Told) -> bool {

@@ -21,6 +21,7 @@ mod name;
 mod read_back;
 mod shape;
 mod size;
+mod stack;
 mod taken;
 mod write;
 
@@ -28,7 +29,7 @@ use crate::{Plan, original, tally::Tally};
 
 pub type Area = fn(&mut Tally, &mut Plan);
 
-pub const ALL: [(&str, Area); 20] = [
+pub const ALL: [(&str, Area); 22] = [
     ("shape", shape::run),
     ("effect", effect::run),
     ("taken", taken::run),
@@ -46,6 +47,8 @@ pub const ALL: [(&str, Area); 20] = [
     ("listing", listing::run),
     ("builder", builder::run),
     ("checker", checks::run),
+    ("stack paths", stack::searched),
+    ("stack built", stack::built),
     ("left behind", left::run),
     ("moved", moved::run),
     ("read back", read_back::run),

@@ -5,6 +5,7 @@ mod builder;
 mod emission;
 mod rules;
 mod sequence;
+mod shown;
 
 use std::{
     cell::Cell,
@@ -17,6 +18,7 @@ pub use builder::{depth_after, depth_by_mismatch, depth_taken, makes_dead, size}
 pub use emission::{emitted, jump, names_refused};
 pub use rules::{effect, opcode, shape, taken_effect};
 pub use sequence::{Left, Sequence};
+pub use shown::Shown;
 
 thread_local! {
     static CATCHING: Cell<bool> = const { Cell::new(false) };

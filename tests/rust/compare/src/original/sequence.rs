@@ -14,7 +14,7 @@ use monty::{
     value::Value,
 };
 
-use super::{message_of, opcode, refusal_of_error, refusal_of_panic};
+use super::{Shown, message_of, opcode, refusal_of_error, refusal_of_panic};
 use crate::script::{
     model::{first_cell, sum},
     parse::{ABSENT, CODE, Call, LOCATIONS, NAMES, TABLES},
@@ -35,6 +35,7 @@ pub struct Sequence {
     marks: Vec<Mark>,
     /// The lengths of the lent tables.
     lent: [usize; 7],
+    shown: Shown,
     built: Option<Built>,
 }
 
@@ -62,6 +63,7 @@ impl Sequence {
             "new dead" | "new live" => return Some(self.renew(call)),
             "build" => return self.build(n[0]),
             "sum" | "cells" => return self.look(call),
+            "check_here" => return self.built.as_ref().map(|_| self.shown.line()),
             "find_in_two" => return Some(find_in_two(n)),
             "tamper" | "tamper depth" | "poke" => {
                 self.end();
@@ -81,8 +83,7 @@ impl Sequence {
             | "step"
             | "check"
             | "check_slice"
-            | "check_zeros"
-            | "check_here" => return None,
+            | "check_zeros" => return None,
             _ => {}
         }
         let Some(mut builder) = self.builder.take() else {
@@ -91,9 +92,14 @@ impl Sequence {
             return None;
         };
         let marks = &mut self.marks;
+        let depth = builder.stack_depth();
         match message_of(|| answer(&mut builder, marks, call)) {
             Ok(None) => None,
             Ok(Some(Ok(values))) => {
+                if call.name == "new_code_region" {
+                    self.shown.open(&builder);
+                }
+                self.shown.follow(depth, &builder);
                 self.builder = Some(builder);
                 Some(format!("ok{values}"))
             }
@@ -121,8 +127,10 @@ impl Sequence {
         let live = call.name == "new live";
         let sizes = &call.numbers[usize::from(live)..];
         let mut builder = CodeBuilder::new();
+        self.shown = Shown::default();
         if live {
             builder.new_code_region(call.numbers[0] as u16);
+            self.shown.open(&builder);
         }
         self.lent = std::array::from_fn(|table| sizes[table] as usize);
         self.builder = Some(builder);
@@ -137,8 +145,15 @@ impl Sequence {
         if fill != 0 {
             return None;
         }
+        self.shown.end(&builder);
         self.built = Some(cells(&builder.build()));
         Some("ok".into())
+    }
+
+    /// The bytes of a finished build, and the depths that the builder showed.
+    pub fn built(&self) -> Option<(Vec<u8>, &Shown)> {
+        let code = &self.built.as_ref()?[CODE];
+        Some((code.iter().map(|&byte| byte as u8).collect(), &self.shown))
     }
 
     /// What `sum` and `cells` say of a table that the Rust has built, in a lent table of the script's length.

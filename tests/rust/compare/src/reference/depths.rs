@@ -186,6 +186,11 @@ impl Depths {
             .collect()
     }
 
+    /// The greatest depth of all cells, the end's among them; 0 where there is none.
+    pub fn greatest(&self) -> u64 {
+        self.places.iter().flatten().max().map_or(0, |&depth| depth as u64)
+    }
+
     /// The instructions that have a depth; none for 23.
     pub fn count(&self) -> Option<usize> {
         self.accepted.then_some(self.instructions)

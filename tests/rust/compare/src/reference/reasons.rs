@@ -4,7 +4,10 @@
 
 use std::collections::{HashSet, VecDeque};
 
-use super::depths::{Instruction, Program, in_range};
+use super::{
+    depths::{Instruction, Program, in_range},
+    paths::steps,
+};
 
 /// A place and a depth there.
 type Pair = (usize, i64);
@@ -54,15 +57,9 @@ fn carried(program: &Program, starts: &[Pair], wanted: &[Pair]) -> bool {
     missing.is_empty()
 }
 
-/// The ways on from a pair, each by itself.
+/// The ways on from a pair, each by itself: the steps to a place with a depth in its range.
 fn ways(program: &Program, (offset, depth): Pair) -> impl Iterator<Item = Pair> {
-    let instruction = program.instruction(offset);
-    let falls = instruction
-        .filter(|instruction| instruction.falls)
-        .map(|instruction| ((offset + instruction.size) as i64, depth + instruction.net));
-    let jumps = instruction.and_then(|instruction| instruction.jump);
-    let jumps = jumps.map(|(goal, effect)| (goal, depth + effect));
-    let ways = [falls, jumps].into_iter().flatten();
-    ways.filter(|&(goal, depth)| program.is_place(goal) && in_range(depth))
+    steps(program, (offset as i64, depth))
+        .filter(|&(goal, depth)| program.is_place(goal) && in_range(depth))
         .map(|(goal, depth)| (goal as usize, depth))
 }

@@ -10,7 +10,7 @@ mod run;
 
 pub use chaos::{noise, records, tampered};
 pub use limits::limits;
-pub use program::programs;
+pub use program::{builds, programs};
 pub use run::{Refusals, command, listing, replay, stored};
 
 use crate::original::Sequence;

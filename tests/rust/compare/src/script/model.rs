@@ -698,7 +698,7 @@ impl Model {
             "check" => {
                 let mut lent = Lent::just(&call.bytes);
                 match self.check(&call.bytes, &starts(0), &mut lent) {
-                    Ok(count) => format!("ok {count}{}", joined(lent.depths.iter().copied())),
+                    Ok(values) => format!("ok{values}{}", joined(lent.depths.iter().copied())),
                     Err(refusal) => refusal.text(),
                 }
             }
@@ -712,7 +712,7 @@ impl Model {
 
     fn check_sum(&self, code: &[u8], starts: &[u32], mut lent: Lent) -> String {
         let answer = match self.check(code, starts, &mut lent) {
-            Ok(count) => format!("ok {count}"),
+            Ok(values) => format!("ok{values}"),
             Err(refusal) => refusal.text(),
         };
         format!("{answer} {} {}", sum(lent.depths), sum(lent.work))
@@ -723,12 +723,13 @@ impl Model {
         let starts: Vec<u32> = self.used(STARTS)?.iter().map(|&cell| cell as u32).collect();
         let mut lent = Lent::just(&code);
         Some(match self.check(&code, &starts, &mut lent) {
-            Ok(count) => format!("ok {count} {}", sum(lent.depths)),
+            Ok(values) => format!("ok{values} {}", sum(lent.depths)),
             Err(refusal) => refusal.text(),
         })
     }
 
-    fn check(&self, code: &[u8], starts: &[u32], lent: &mut Lent) -> Result<usize, Refusal> {
+    /// The count and the greatest depth.
+    fn check(&self, code: &[u8], starts: &[u32], lent: &mut Lent) -> Answer {
         let refused = |(number, offset)| Refusal {
             number,
             table: None,
@@ -741,7 +742,8 @@ impl Model {
         }
         let checked = depths.map_err(refused)?;
         lent.depths[..=code.len()].copy_from_slice(&checked.held());
-        checked.count().ok_or_else(|| refused((23, None)))
+        let count = checked.count().ok_or_else(|| refused((23, None)))?;
+        Ok(joined([count as u64, checked.greatest()]))
     }
 }
 

@@ -6,7 +6,7 @@ use monty::bytecode::op::Opcode::{self, *};
 use super::{Script, model::Model, parse::MARKS};
 use crate::{
     operand::{Fields, Width, operand_naming, widths},
-    original,
+    original::{self, Shown},
     random::Random,
     reference::{Decoder, depths::makes_dead},
 };
@@ -24,6 +24,17 @@ pub fn programs(random: &mut Random, calls: usize) -> Vec<Script> {
         scripts.push(maker.script);
     }
     scripts
+}
+
+/// So many programs, and of each that the Rust has built the bytes and the depths that its builder showed.
+pub fn builds(random: &mut Random, programs: usize, mut take: impl FnMut(Vec<u8>, &Shown)) {
+    let mut maker = Maker::new(random);
+    for _ in 0..programs {
+        maker.program();
+        if let Some((code, shown)) = maker.script.original.built() {
+            take(code, shown);
+        }
+    }
 }
 
 struct Maker<'a> {
