@@ -31,7 +31,7 @@ static inline uint32_t tf_refusal(tf_answer a) { return (uint32_t)(a >> 32); }
 /* The value of an accepted call; after a refusal the lower half is what that names, and this is not for it. */
 static inline int32_t tf_value(tf_answer a) { return (int32_t)(uint32_t)(a & 0xFFFFFFFFu); }
 
-/* What a refusal names: for 18 the table, TF_TABLE_..; for 22, and for 1 of an opcode that was read from code, the
+/* What a refusal names: for 18 the table, TF_TABLE_..; for 22 and 26, and for 1 of an opcode that was read from code, the
  * offset modulo 2^32; of tf_read_listing the line, from 1 on and modulo 2^32; else 0. */
 static inline uint32_t tf_named(tf_answer a) { return (uint32_t)(a & 0xFFFFFFFFu); }
 
@@ -61,7 +61,8 @@ enum {
     TF_CUT_SHORT = 22,          /* an instruction is cut short by the code's end */
     TF_NO_DEPTHS = 23,          /* no depths can be given to the instructions */
     TF_NOT_A_LINE = 24,         /* a line that no listing without fault has there; names the line */
-    TF_DISAGREES = 25           /* an offset or a target that is not the one that results; names the line */
+    TF_DISAGREES = 25,          /* an offset or a target that is not the one that results; names the line */
+    TF_TOO_FEW_VALUES = 26      /* in strict mode: an instruction needs more values than are there; names its offset */
 };
 
 /* What tf_named says of 18: what is too short. */
@@ -234,16 +235,24 @@ tf_answer tf_write(uint8_t *out, size_t room, uint8_t opcode, uint8_t shape, uin
 /* An element of depths that holds no depth. */
 enum { TF_NO_DEPTH = 65536 };
 
+/* The modes of a check: what it asks of an instruction that has a depth. */
+enum {
+    TF_NET = 0,   /* that what the instruction adds and takes away in all leaves 0 to 65,535; so the builder checks too */
+    TF_STRICT = 1 /* besides, that the values which it needs are there: the Binary, Compare and Inplace opcodes, Rot2 and
+                   * Dup2 need 2, Rot3 needs 3, the Unary opcodes and Dup need 1, every other opcode none */
+};
+
 /* Whether a depth of the stack can be given to each instruction of length bytes of code that the starts lead to,
- * so that all paths meet with the same depth. starts has start_cells numbers: the offset of a start, its depth, and so
+ * so that all paths meet with the same depth. mode is TF_NET or TF_STRICT; what TF_STRICT accepts TF_NET accepts too, with
+ * the same value, depths and greatest depth. starts has start_cells numbers: the offset of a start, its depth, and so
  * on. Two arrays of at least length + 1 elements each are lent: depths, which has room elements, and work, which has
  * work_cells; and one number, greatest, which can't be null. What they hold does not matter. The time is in proportion
  * to the length of the code and of the starts (measured, not proved).
  *
  * Value: how many instructions have a depth. The first length + 1 elements of depths then hold the depth before the
- * instruction at each offset, the last of them the depth at the code's end, and TF_NO_DEPTH elsewhere; on 23 they all
- * hold TF_NO_DEPTH, and any other refusal writes nothing there. The first length + 1 elements of work are used by the
- * check and end as 0, accepted or refused; 10 and 21 alone leave them as they were. No later element of the two is ever
+ * instruction at each offset, the last of them the depth at the code's end, and TF_NO_DEPTH elsewhere; on 23 and 26 they
+ * all hold TF_NO_DEPTH, and any other refusal writes nothing there. The first length + 1 elements of work are used by the
+ * check and end as 0, accepted or refused; 2, 10 and 21 alone leave them as they were. No later element of the two is ever
  * written.
  *
  * The number that greatest points to becomes the greatest of the depths, the end's among them, or 0 where there is
@@ -252,20 +261,21 @@ enum { TF_NO_DEPTH = 65536 };
  * uses while it runs is not in it.
  *
  *     uint32_t greatest;
- *     tf_answer a = tf_check(code, length, starts, 2, depths, length + 1, work, length + 1, &greatest);
+ *     tf_answer a = tf_check(TF_NET, code, length, starts, 2, depths, length + 1, work, length + 1, &greatest);
  *     if (tf_refusal(a) == 0) printf("reserve a stack of %u\n", (unsigned)greatest);
  *
- * Refuses, in this order: 10; 21 where depths or work has fewer than length + 1 elements; 1 or 22 with the offset; 20;
- * 23. */
-tf_answer tf_check(const uint8_t *code, size_t length, const uint32_t *starts, size_t start_cells, uint32_t *depths,
-                   size_t room, uint32_t *work, size_t work_cells, uint32_t *greatest);
+ * Refuses, in this order: 2 for another mode; 10; 21 where depths or work has fewer than length + 1 elements; 1 or 22 with
+ * the offset; 20; 23; in the mode TF_STRICT 26 with the lowest offset of an instruction that has too few values. */
+tf_answer tf_check(uint8_t mode, const uint8_t *code, size_t length, const uint32_t *starts, size_t start_cells,
+                   uint32_t *depths, size_t room, uint32_t *work, size_t work_cells, uint32_t *greatest);
 
 /* What tf_explain writes, by its place in told. */
 enum {
     TF_REASON_KIND = 0,        /* one of the kinds below */
     TF_REASON_OFFSET = 1,      /* of the place, or of the instruction */
     TF_REASON_DEPTH = 2,       /* a depth that a path from a start brings there */
-    TF_REASON_OTHER_DEPTH = 3, /* another, for TF_REASON_TWO_DEPTHS; else 0 */
+    TF_REASON_OTHER_DEPTH = 3, /* another, for TF_REASON_TWO_DEPTHS */
+    TF_REASON_NEED = 3,        /* how many values are needed, for TF_REASON_TOO_FEW; for the other kinds 0 */
     TF_REASON_CELLS = 4
 };
 
@@ -274,24 +284,26 @@ enum {
     TF_REASON_TWO_DEPTHS = 1,         /* paths bring two depths to the place */
     TF_REASON_NET_OUT_OF_RANGE = 2,   /* the depth behind the instruction would not be 0 to 65,535 */
     TF_REASON_TAKEN_OUT_OF_RANGE = 3, /* the depth that the taken jump arrives with would not be */
-    TF_REASON_NO_PLACE = 4            /* the jump's target is no instruction's start and not the code's end */
+    TF_REASON_NO_PLACE = 4,           /* the jump's target is no instruction's start and not the code's end */
+    TF_REASON_TOO_FEW = 5             /* with 26: the instruction needs more values than its depth */
 };
 
 /* Checks as tf_check does, with the same answer, the same elements of depths and work and the same greatest depth. On
- * 23 a reason why no depths can be given is written to the first TF_REASON_CELLS elements of told, which has told_room
- * elements; which of several is not promised. Otherwise told stays as it was, and no later element of it is ever
- * written.
+ * 23 a reason why no depths can be given, and on 26 what is too little, is written to the first TF_REASON_CELLS elements
+ * of told, which has told_room elements; which of several reasons for 23 is not promised. Otherwise told stays as it was,
+ * and no later element of it is ever written.
  * Refuses: 18 first of all where told has fewer than TF_REASON_CELLS elements, and then nothing is written; else as
  * tf_check.
  *
  *     uint64_t told[TF_REASON_CELLS];
- *     tf_answer a = tf_explain(code, length, starts, 2, depths, length + 1, work, length + 1, &greatest, told,
+ *     tf_answer a = tf_explain(TF_NET, code, length, starts, 2, depths, length + 1, work, length + 1, &greatest, told,
  *                              TF_REASON_CELLS);
- *     if (tf_refusal(a) == TF_NO_DEPTHS) printf("see offset %u\n", (unsigned)told[TF_REASON_OFFSET]);
+ *     if (tf_refusal(a) == TF_NO_DEPTHS || tf_refusal(a) == TF_TOO_FEW_VALUES)
+ *         printf("see offset %u\n", (unsigned)told[TF_REASON_OFFSET]);
  */
-tf_answer tf_explain(const uint8_t *code, size_t length, const uint32_t *starts, size_t start_cells, uint32_t *depths,
-                     size_t room, uint32_t *work, size_t work_cells, uint32_t *greatest, uint64_t *told,
-                     size_t told_room);
+tf_answer tf_explain(uint8_t mode, const uint8_t *code, size_t length, const uint32_t *starts, size_t start_cells,
+                     uint32_t *depths, size_t room, uint32_t *work, size_t work_cells, uint32_t *greatest,
+                     uint64_t *told, size_t told_room);
 
 /* ---- Listings
  *

@@ -117,6 +117,43 @@ fn why_there_are_no_depths() {
     }
 }
 
+#[test]
+fn a_strict_check_asks_for_what_is_needed() {
+    let file = repository("examples/brake-short.rule");
+    let file = file.to_str().expect("a plain path");
+    let old = rules(&["check", file], b"");
+    assert_eq!((old.status.code(), old.stderr), (Some(0), vec![]));
+    for words in [
+        &["check", "--strict", file][..],
+        &["check", file, "--strict"],
+        &["check", file, "0:0", "--strict"],
+    ] {
+        let strict = rules(words, b"");
+        assert_eq!(
+            text(&strict.stdout),
+            "offset 13: Rot2 needs 2 values, 1 is there (26)\n"
+        );
+        assert_eq!((strict.status.code(), strict.stderr), (Some(1), vec![]));
+    }
+    // What both modes accept they print alike; and what the old one refuses the strict one does.
+    for rule in ["nine-bytes", "brake", "brake-broken", "keyword-calls"] {
+        let code = fs::read(repository(&format!("examples/{rule}.rule"))).expect("the rule is there");
+        let [old, strict] = [&["check", "-"][..], &["check", "--strict", "-"]].map(|words| rules(words, &code));
+        assert_eq!(text(&strict.stdout), text(&old.stdout), "{rule}");
+        assert_eq!(strict.status, old.status, "{rule}");
+    }
+}
+
+#[test]
+fn what_is_compiled_can_be_checked_strictly() {
+    let code = fs::read(repository("examples/brake-short.rule")).expect("the rule is there");
+    let listing = tokenfinch::listing(&code);
+    assert_eq!(rules(&["compile", "-"], &listing).stdout, code);
+    let strict = rules(&["compile", "--strict", "-"], &listing);
+    assert_eq!((strict.status.code(), strict.stdout), (Some(1), vec![]));
+    assert_eq!(text(&strict.stderr), "-:7: Rot2 needs 2 values, 1 is there (26)\n");
+}
+
 /// A program that goes on until it is ended, which a failing test does too.
 struct Watching(Child);
 
@@ -260,6 +297,7 @@ fn what_is_no_good_is_one_line_and_status_2() {
         &["check", "--watch", "-"],
         &["check", "--watch", "no-such-file"],
         &["check", "--watch", folder],
+        &["check", "--strict"],
         &["stack"],
         &["stack", "no-such-file"],
         &["stack", folder],
@@ -270,6 +308,7 @@ fn what_is_no_good_is_one_line_and_status_2() {
         &["compile", "-", "0"],
         &["compile", "-", "-o"],
         &["compile", "-", "0:0", "--unchecked"],
+        &["compile", "-", "--strict", "--unchecked"],
         &["opcodes", "more"],
         &["replay", "more"],
     ] {

@@ -67,8 +67,8 @@ int main(void)
 
     tf_answer built = build_brake(&b, 0);
     size_t length = tf_current_offset(&b);
-    tf_answer checked = tf_check(code, length, starts, (size_t)b.state.starts * TF_START_CELLS, depths, COUNT(depths),
-                                 work, COUNT(work), &greatest);
+    tf_answer checked = tf_check(TF_STRICT, code, length, starts, (size_t)b.state.starts * TF_START_CELLS, depths,
+                                 COUNT(depths), work, COUNT(work), &greatest);
     if (built != 0 || tf_refusal(checked) != 0) {
         printf("brake: refused by %u\n", (unsigned)tf_refusal(built != 0 ? built : checked));
         return 1;

@@ -2,7 +2,7 @@
  * stack before the instruction, `-` where no path from a start leads to it. Behind the line of the code's end stands
  * how much stack the code needs.
  *
- * Usage: check FILE [OFFSET:DEPTH ..]        (`-` reads standard input; without starts: 0:0)
+ * Usage: check [--strict] FILE [OFFSET:DEPTH ..]        (`-` reads standard input; without starts: 0:0)
  * Exit status: 0 where depths can be given, 1 where the code is refused, 2 where the words or the file are no good. */
 #include "parts.h"
 
@@ -30,6 +30,7 @@ static const char *in_words(uint32_t refusal)
     case TF_BAD_STARTS: return "a start is at no instruction and not at the end, or its depth is over 65,535";
     case TF_CUT_SHORT: return "an instruction is cut short by the code's end";
     case TF_NO_DEPTHS: return "no depths can be given";
+    case TF_TOO_FEW_VALUES: return "an instruction needs more values than the stack holds";
     default: return "refused";
     }
 }
@@ -64,29 +65,32 @@ static void print_reason(const uint8_t *code, size_t length, const uint64_t told
     case TF_REASON_NO_PLACE:
         printf("the jump at offset %zu leads to %ld, where no instruction starts\n", at, target(code, length, at));
         break;
+    case TF_REASON_TOO_FEW:
+        printf("it needs %u, and the depth is %u\n", (unsigned)told[TF_REASON_NEED], depth);
+        break;
     default:
         printf("at offset %zu the instruction takes the depth %u below 0, or above 65,535\n", at, depth);
     }
 }
 
-static int check(const uint8_t *code, size_t length, const uint32_t *starts, size_t count, uint32_t *depths,
-                 uint32_t *work)
+static int check(uint8_t mode, const uint8_t *code, size_t length, const uint32_t *starts, size_t count,
+                 uint32_t *depths, uint32_t *work)
 {
     uint64_t told[TF_REASON_CELLS];
     uint32_t greatest;
-    tf_answer answer = tf_explain(code, length, starts, count, depths, length + 1, work, length + 1, &greatest, told,
-                                  TF_REASON_CELLS);
+    tf_answer answer = tf_explain(mode, code, length, starts, count, depths, length + 1, work, length + 1, &greatest,
+                                  told, TF_REASON_CELLS);
     uint32_t refusal = tf_refusal(answer);
     if (refusal == 0) {
         print_all(code, length, depths);
         printf("stack %u\n", (unsigned)greatest);
         return 0;
     }
-    if (refusal == TF_UNKNOWN_OPCODE || refusal == TF_CUT_SHORT)
+    if (refusal == TF_UNKNOWN_OPCODE || refusal == TF_CUT_SHORT || refusal == TF_TOO_FEW_VALUES)
         printf("refused %u at offset %u: %s\n", (unsigned)refusal, (unsigned)tf_value(answer), in_words(refusal));
     else
         printf("refused %u: %s\n", (unsigned)refusal, in_words(refusal));
-    if (refusal == TF_NO_DEPTHS)
+    if (refusal == TF_NO_DEPTHS || refusal == TF_TOO_FEW_VALUES)
         print_reason(code, length, told);
     return 1;
 }
@@ -99,8 +103,13 @@ static int bad(const char *why, const char *what)
 
 int main(int count, char **words)
 {
+    uint8_t mode = count > 1 && strcmp(words[1], "--strict") == 0 ? TF_STRICT : TF_NET;
+    if (mode == TF_STRICT) {
+        words++;
+        count--;
+    }
     if (count < 2)
-        return bad("usage: check FILE [OFFSET:DEPTH ..]", "");
+        return bad("usage: check [--strict] FILE [OFFSET:DEPTH ..]", "");
     /* two numbers a start, and room for the one that is taken where none is given */
     uint32_t *starts = calloc((size_t)count * 2, sizeof *starts);
     size_t given = 0;
@@ -120,7 +129,7 @@ int main(int count, char **words)
     if (starts == NULL || depths == NULL || work == NULL)
         bad("can't read", words[1]);
     else
-        status = check(code, length, starts, count == 2 ? 2 : given, depths, work);
+        status = check(mode, code, length, starts, count == 2 ? 2 : given, depths, work);
     if (file != NULL)
         fclose(file);
     free(work);

@@ -88,7 +88,7 @@ static void brake(const uint8_t *rule, size_t length)
     report("its start", b.state.starts == 1 && memcmp(b.starts, starts, sizeof starts) == 0);
     report("and no other", blank_from(TF_TABLE_STARTS, TF_START_CELLS));
     report("its constants", b.state.constants == 2 && b.constants[0] == 41 && b.constants[1] == 27);
-    report("it checks", tf_check(b.code, 16, b.starts, 2, depth, 65, work, 65, &greatest) == 8);
+    report("it checks", tf_check(TF_NET, b.code, 16, b.starts, 2, depth, 65, work, 65, &greatest) == 8);
     report("its stack", greatest == 2);
     for (size_t i = 0; i < sizeof places / sizeof places[0]; i++)
         report("its depths", depth[places[i]] == depths[i]);

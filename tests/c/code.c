@@ -175,8 +175,9 @@ static void writing(void)
             report("a refusal writes nothing", 0);
 }
 
-/* What a check is lent beside the code and the starts. */
+/* What a check is lent beside the code and the starts, and its mode. */
 static uint32_t depth[16], work[16], greatest;
+static uint8_t mode = TF_NET;
 
 static void fresh_lent(void)
 {
@@ -210,7 +211,7 @@ static tf_answer checked(const char *bytes, size_t length, const uint32_t *start
     fresh_lent();
     const uint8_t *code = (const uint8_t *)bytes;
     tf_answer answer =
-        with_greatest(tf_check(code, length, starts, cells, depth, length + 1, work, length + 1, &greatest));
+        with_greatest(tf_check(mode, code, length, starts, cells, depth, length + 1, work, length + 1, &greatest));
     report("the work ends with zeros", filled(work, length + 1, 0));
     return answer;
 }
@@ -220,7 +221,7 @@ static tf_answer explain(const uint8_t *code, size_t length, const uint32_t *sta
                          size_t room)
 {
     fresh_lent();
-    return with_greatest(tf_explain(code, length, starts, 2, depth, 16, work, cells, &greatest, out, room));
+    return with_greatest(tf_explain(mode, code, length, starts, 2, depth, 16, work, cells, &greatest, out, room));
 }
 
 static void depths(void)
@@ -263,13 +264,58 @@ static void short_slices(void)
 {
     static const uint32_t zero[] = {0, 0};
     fresh_lent();
-    refusal("too few depths", tf_check(nine, sizeof nine, zero, 2, depth, 9, work, 10, &greatest), TF_SHORT_DEPTHS);
-    refusal("too little work", tf_check(nine, sizeof nine, zero, 2, depth, 10, work, 9, &greatest), TF_SHORT_DEPTHS);
-    refusal("no work", tf_check(nine, sizeof nine, zero, 2, depth, 10, NULL, 0, &greatest), TF_SHORT_DEPTHS);
-    refusal("21 before 22", tf_check(nine, 3, zero, 2, depth, 4, work, 3, &greatest), TF_SHORT_DEPTHS);
-    refusal("10 before 21", tf_check(long_code, sizeof long_code, zero, 2, depth, 16, work, 16, &greatest),
+    refusal("too few depths", tf_check(mode, nine, sizeof nine, zero, 2, depth, 9, work, 10, &greatest),
+            TF_SHORT_DEPTHS);
+    refusal("too little work", tf_check(mode, nine, sizeof nine, zero, 2, depth, 10, work, 9, &greatest),
+            TF_SHORT_DEPTHS);
+    refusal("no work", tf_check(mode, nine, sizeof nine, zero, 2, depth, 10, NULL, 0, &greatest), TF_SHORT_DEPTHS);
+    refusal("21 before 22", tf_check(mode, nine, 3, zero, 2, depth, 4, work, 3, &greatest), TF_SHORT_DEPTHS);
+    refusal("10 before 21", tf_check(mode, long_code, sizeof long_code, zero, 2, depth, 16, work, 16, &greatest),
             TF_TOO_LARGE);
     report("nothing is written", unwritten());
+}
+
+/* What strict mode refuses: with one value less than the opcode needs. With as many, or in the old mode, it is accepted. */
+static void needs(const char *what, uint8_t opcode, uint32_t need)
+{
+    const uint8_t code[] = {TF_OP_NOP, opcode};
+    uint32_t starts[] = {0, need};
+    mode = TF_STRICT;
+    value(what, explain(code, 2, starts, 16, fresh(), CELLS), 2);
+    report(what, untouched(0));
+    starts[1] = need - 1;
+    naming(what, explain(code, 2, starts, 16, fresh(), CELLS), TF_TOO_FEW_VALUES, 1);
+    const uint64_t reason[] = {TF_REASON_TOO_FEW, 1, need - 1, need};
+    report(what, memcmp(cell, reason, sizeof reason) == 0 && untouched(TF_REASON_CELLS));
+    report(what, filled(depth, 3, TF_NO_DEPTH) && filled(work, 3, 0));
+    mode = TF_NET;
+    value(what, explain(code, 2, starts, 16, fresh(), CELLS), 2);
+}
+
+static void strict(void)
+{
+    static const uint32_t zero[] = {0, 0}, two[] = {0, 2};
+    needs("BinaryAdd", TF_OP_BINARY_ADD, 2);
+    needs("BinarySubscr", TF_OP_BINARY_SUBSCR, 2);
+    needs("CompareNotIn", TF_OP_COMPARE_NOT_IN, 2);
+    needs("InplaceRShift", TF_OP_INPLACE_RSHIFT, 2);
+    needs("Rot2", TF_OP_ROT2, 2);
+    needs("Rot3", TF_OP_ROT3, 3);
+    needs("Dup2", TF_OP_DUP2, 2);
+    needs("Dup", TF_OP_DUP, 1);
+    needs("UnaryNeg", TF_OP_UNARY_NEG, 1);
+    mode = TF_STRICT;
+    naming("the lowest offset", checked("\x02\x03\x03", 3, two, 2), TF_TOO_FEW_VALUES, 1);
+    report("behind a return nothing is needed", checked("\x65\x17", 2, two, 2) == 1);
+    report("bytes of an operand need nothing", checked("\x08\x17\x65", 3, zero, 2) == 2);
+    report("23 before 26", tf_refusal(checked("\x05\x17\x00", 3, zero, 2)) == TF_NO_DEPTHS);
+    short_slices();
+    fresh_lent();
+    refusal("no mode", tf_check(2, long_code, sizeof long_code, zero, 2, depth, 9, work, 9, &greatest), TF_WRONG_SHAPE);
+    refusal("no mode", tf_explain(255, nine, 1, zero, 2, depth, 9, work, 9, &greatest, fresh(), 4), TF_WRONG_SHAPE);
+    refused("18 before 2", tf_explain(2, nine, 1, zero, 2, depth, 9, work, 9, &greatest, NULL, 0), TF_FULL, TF_TABLE_TEXT);
+    report("nothing is written", unwritten() && untouched(0));
+    mode = TF_NET;
 }
 
 /* Code that no depths can be given to, from one start at its front, and the reason: with more cells than it has, with
@@ -456,6 +502,7 @@ int main(void)
     depths();
     stacks();
     short_slices();
+    strict();
     reasons();
     no_reasons();
     listings();

@@ -85,7 +85,13 @@ static uint32_t greatest_of(size_t count)
     return most;
 }
 
-static tf_answer checks_of(size_t length, size_t pairs, size_t room, size_t work)
+/* Whether a refusal comes with a reason, and with no depth left in the cells. */
+static int has_reason(tf_answer answer)
+{
+    return tf_refusal(answer) == TF_NO_DEPTHS || tf_refusal(answer) == TF_TOO_FEW_VALUES;
+}
+
+static tf_answer checks_of(uint8_t mode, size_t length, size_t pairs, size_t room, size_t work)
 {
     lend_code(length);
     lend(PAIRS, pairs);
@@ -96,9 +102,9 @@ static tf_answer checks_of(size_t length, size_t pairs, size_t room, size_t work
     lend(GREATEST, 1);
     remember();
     uint32_t *greatest = lent_at(GREATEST);
-    tf_answer answer = tf_check(LENT(const uint8_t, CODE), LENT(const uint32_t, PAIRS), LENT(uint32_t, DEPTHS),
+    tf_answer answer = tf_check(mode, LENT(const uint8_t, CODE), LENT(const uint32_t, PAIRS), LENT(uint32_t, DEPTHS),
                                 LENT(uint32_t, WORK), greatest);
-    if (tf_refusal(answer) == 0 || tf_refusal(answer) == TF_NO_DEPTHS)
+    if (tf_refusal(answer) == 0 || has_reason(answer))
         report("depths", room > length && blank_from(DEPTHS, length + 1));
     else
         report("no depths are written", kept(DEPTHS));
@@ -110,17 +116,20 @@ static tf_answer checks_of(size_t length, size_t pairs, size_t room, size_t work
     return answer;
 }
 
-/* Whether what was told can be a reason. */
-static int a_reason(void)
+/* Whether what was told can be a reason for the refusal. */
+static int a_reason(uint32_t refusal)
 {
     const uint64_t *told = lent_at(OUT);
-    return told[TF_REASON_KIND] >= TF_REASON_TWO_DEPTHS && told[TF_REASON_KIND] <= TF_REASON_NO_PLACE &&
+    int strict = told[TF_REASON_KIND] == TF_REASON_TOO_FEW;
+    return told[TF_REASON_KIND] >= TF_REASON_TWO_DEPTHS && told[TF_REASON_KIND] <= TF_REASON_TOO_FEW &&
+           strict == (refusal == TF_TOO_FEW_VALUES) && (!strict || told[TF_REASON_DEPTH] < told[TF_REASON_NEED]) &&
            told[TF_REASON_OFFSET] <= lent[CODE].length && told[TF_REASON_DEPTH] < TF_NO_DEPTH &&
            told[TF_REASON_OTHER_DEPTH] < TF_NO_DEPTH && blank_from(OUT, TF_REASON_CELLS);
 }
 
-/* The same check once more with so much room for a reason: it leaves what the check left, and on 23 alone a reason. */
-static void explanations(tf_answer checked, size_t room)
+/* The same check once more with so much room for a reason: it leaves what the check left, and on 23 and 26 alone a
+ * reason. */
+static void explanations(uint8_t mode, tf_answer checked, size_t room)
 {
     lend(OUT, room);
     remember();
@@ -129,7 +138,7 @@ static void explanations(tf_answer checked, size_t room)
     lend(GREATEST, 1);
     if (room < TF_REASON_CELLS)
         remember(); /* nothing may change */
-    tf_answer answer = tf_explain(LENT(const uint8_t, CODE), LENT(const uint32_t, PAIRS), LENT(uint32_t, DEPTHS),
+    tf_answer answer = tf_explain(mode, LENT(const uint8_t, CODE), LENT(const uint32_t, PAIRS), LENT(uint32_t, DEPTHS),
                                   LENT(uint32_t, WORK), (uint32_t *)lent_at(GREATEST), LENT(uint64_t, OUT));
     if (room < TF_REASON_CELLS) {
         report("no room for a reason", tf_named(answer) == TF_TABLE_TEXT && refused_by(answer, TF_FULL, TF_FULL));
@@ -137,7 +146,7 @@ static void explanations(tf_answer checked, size_t room)
     }
     report("the check's answer", answer == checked);
     report("and its elements", kept(CODE) && kept(PAIRS) && kept(DEPTHS) && kept(WORK) && kept(GREATEST));
-    report("a reason on 23 alone", tf_refusal(answer) == TF_NO_DEPTHS ? a_reason() : kept(OUT));
+    report("a reason on 23 and 26 alone", has_reason(answer) ? a_reason(tf_refusal(answer)) : kept(OUT));
 }
 
 /* Both lookups in rows, and both in numbers, with rows of any length and so much room. */
@@ -224,8 +233,9 @@ int main(void)
         steps(length);
         for (size_t round = 0; round < MOST; round++) {
             counts(length);
-            tf_answer checked = checks_of(length, round % 6, length + round % 4, length + round / 4 % 4);
-            explanations(checked, round % 7);
+            uint8_t mode = random_byte() % 2;
+            tf_answer checked = checks_of(mode, length, round % 6, length + round % 4, length + round / 4 % 4);
+            explanations(mode, checked, round % 7);
             lookups(length, round % 9);
         }
     }

@@ -49,7 +49,7 @@ bool as_expected()
             return false;
     if (tf_current_position(&rule.b).end != 20 || rule.b.state.locations != 3)
         return false;
-    tf_answer checked = tf_check(rule.code, sizeof bytes, rule.starts, TF_START_CELLS, depths, sizeof bytes + 1, work,
+    tf_answer checked = tf_check(TF_NET, rule.code, sizeof bytes, rule.starts, TF_START_CELLS, depths, sizeof bytes + 1, work,
                                  sizeof bytes + 1, &greatest);
     return checked == 3 && depths[4] == 1 && greatest == 1;
 }

@@ -4,7 +4,7 @@
 
 use bench::{
     building, checked,
-    checker::{Plain, Proved},
+    checker::{NET, Plain, Proved, STRICT},
     decode, emission, listing,
     lookups::Tables,
     readback, row,
@@ -62,13 +62,23 @@ fn main() {
         let (proved, plain) = (RefCell::new(proved), RefCell::new(plain));
         let pair = Pair {
             what: &work.what,
-            proved: &|| proved.borrow_mut().check(&work),
+            proved: &|| proved.borrow_mut().check(NET, &work),
             plain: &|| plain.borrow_mut().check(&work),
         };
         measure(&pair, repetitions);
         let (proved, plain) = (proved.borrow(), plain.borrow());
         assert_eq!(proved.depths, plain.depths, "{}", work.what);
         assert_eq!(proved.greatest, plain.greatest, "{}", work.what);
+    }
+    for work in checked::strict_works() {
+        let [strict, net] = [(); 2].map(|()| RefCell::new(Proved::new(&work)));
+        // Their answers differ where strict mode refuses.
+        let pair = Pair {
+            what: &work.what,
+            proved: &|| strict.borrow_mut().check(STRICT, &work) & 0,
+            plain: &|| net.borrow_mut().check(NET, &work) & 0,
+        };
+        measure(&pair, repetitions);
     }
     for (rows, locations, handlers) in [
         (

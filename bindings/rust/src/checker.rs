@@ -8,6 +8,18 @@ pub const NO_DEPTH: u32 = 65_536;
 /// The most bytes of code.
 const CODE_MOST: usize = 1_048_576;
 
+/// What a check asks of an instruction's depth.
+#[derive(Debug, Clone, Copy, PartialEq, Eq, Hash, Default)]
+#[repr(u8)]
+pub enum Mode {
+    /// That what the instruction adds and takes away in all leaves the depth at or above 0. So the builder checks.
+    #[default]
+    Net = 0,
+    /// That besides the stack holds the values that the instruction needs: two for an addition or a comparison, say, where
+    /// the other mode lets it pass with one. What this mode accepts the other one does, with the same depths.
+    Strict = 1,
+}
+
 /// What a check says of the depths that it gave.
 #[derive(Debug, Clone, Copy, PartialEq, Eq, Hash)]
 pub struct Assignment {
@@ -95,7 +107,26 @@ impl Checked {
 /// # Ok::<(), Refusal>(())
 /// ```
 pub fn check(code: &[u8], starts: &[u32]) -> Result<Checked, Refusal> {
-    let mut checker = Checker::new();
+    check_in(Mode::Net, code, starts)
+}
+
+/// The same in a mode.
+///
+/// # Errors
+/// As [`check`]; in strict mode, where that accepts, 26 with the lowest offset of an instruction that needs more values
+/// than the stack holds there.
+///
+/// ```
+/// use tokenfinch::{Mode, Refusal, check_in};
+///
+/// // One value is loaded, and Rot2 swaps two: in all it adds and takes nothing, so the other mode lets it pass.
+/// let code = [0x05, 0x02, 0x65];
+/// assert_eq!(check_in(Mode::Strict, &code, &[0, 0]), Err(Refusal::TooFewValues(1)));
+/// assert_eq!(check_in(Mode::Net, &code, &[0, 1])?, check_in(Mode::Strict, &code, &[0, 1])?);
+/// # Ok::<(), Refusal>(())
+/// ```
+pub fn check_in(mode: Mode, code: &[u8], starts: &[u32]) -> Result<Checked, Refusal> {
+    let mut checker = Checker::in_mode(mode);
     checker.check(code, starts)?;
     Ok(checker.checked)
 }
@@ -117,37 +148,59 @@ pub fn check(code: &[u8], starts: &[u32]) -> Result<Checked, Refusal> {
 /// assert_eq!(error.reason(), Some(Reason::DepthOutOfRange { at: 0, depth: 0 }));
 /// ```
 pub fn explain(code: &[u8], starts: &[u32]) -> Result<Checked, CheckError> {
-    let mut checker = Checker::new();
+    explain_in(Mode::Net, code, starts)
+}
+
+/// The same in a mode.
+///
+/// # Errors
+/// As [`check_in`]; 23 and 26 have their [`Reason`].
+///
+/// ```
+/// use tokenfinch::{Mode, Reason, explain_in};
+///
+/// let error = explain_in(Mode::Strict, &[0x05, 0x02, 0x65], &[0, 0]).unwrap_err();
+/// assert_eq!(error.reason(), Some(Reason::TooFewValues { at: 1, depth: 1, need: 2 }));
+/// ```
+pub fn explain_in(mode: Mode, code: &[u8], starts: &[u32]) -> Result<Checked, CheckError> {
+    let mut checker = Checker::in_mode(mode);
     checker.explain(code, starts)?;
     Ok(checker.checked)
 }
 
-/// The same as [`check`] into lent slices. The first cells of `depths`, one more than the code has bytes, hold the depths
-/// and [`NO_DEPTH`] elsewhere; on 23 they all hold that; any other refusal writes nothing there. As many cells of `work`
+/// The same as [`check_in`] into lent slices. The first cells of `depths`, one more than the code has bytes, hold the
+/// depths and [`NO_DEPTH`] elsewhere; on 23 and 26 they all hold that; any other refusal writes nothing there. As many
+/// cells of `work`
 /// are used, whatever they hold, and end with zeros, accepted or not; 10 and 21 leave them as they are. No later cell of
 /// either is ever written.
 ///
 /// # Errors
-/// As [`check`], with 21 behind 10 where one of the slices is too short.
+/// As [`check_in`], with 21 behind 10 where one of the slices is too short.
 ///
 /// ```
-/// use tokenfinch::{Assignment, NO_DEPTH, Refusal, check_into};
+/// use tokenfinch::{Assignment, Mode, NO_DEPTH, Refusal, check_into};
 ///
 /// let (mut depths, mut work) = ([0; 4], [7; 4]);
-/// let assignment = check_into(&[0x05, 0x65], &[0, 0], &mut depths, &mut work)?;
+/// let assignment = check_into(Mode::Net, &[0x05, 0x65], &[0, 0], &mut depths, &mut work)?;
 /// assert_eq!(assignment, Assignment { count: 2, greatest: 1 });
 /// assert_eq!(depths, [0, 1, NO_DEPTH, 0]);
 /// assert_eq!(work, [0, 0, 0, 7]);
 /// # Ok::<(), Refusal>(())
 /// ```
-pub fn check_into(code: &[u8], starts: &[u32], depths: &mut [u32], work: &mut [u32]) -> Result<Assignment, Refusal> {
+pub fn check_into(
+    mode: Mode,
+    code: &[u8],
+    starts: &[u32],
+    depths: &mut [u32],
+    work: &mut [u32],
+) -> Result<Assignment, Refusal> {
     let mut greatest = 0;
-    let answer = sys::check(code, starts, depths, work, &mut greatest);
+    let answer = sys::check(mode as u8, code, starts, depths, work, &mut greatest);
     Assignment::told(answer, greatest)
 }
 
 /// A checker that keeps its memory from one call to the next, for an editor that checks at each keystroke. It keeps nothing
-/// else: each call answers as [`check`] and [`explain`] do.
+/// else: each call answers as [`check_in`] and [`explain_in`] do in its mode.
 ///
 /// ```
 /// use tokenfinch::{CheckError, Checker};
@@ -167,6 +220,7 @@ pub fn check_into(code: &[u8], starts: &[u32], depths: &mut [u32], work: &mut [u
 /// ```
 #[derive(Debug, Clone)]
 pub struct Checker {
+    mode: Mode,
     checked: Checked,
     work: Vec<u32>,
 }
@@ -178,35 +232,50 @@ impl Default for Checker {
 }
 
 impl Checker {
-    /// One that has no memory yet.
+    /// One that has no memory yet, in the mode [`Mode::Net`].
     #[must_use]
     pub fn new() -> Self {
+        Self::in_mode(Mode::Net)
+    }
+
+    /// The same in a mode.
+    #[must_use]
+    pub fn in_mode(mode: Mode) -> Self {
         let (assignment, depths) = (Assignment { count: 0, greatest: 0 }, Vec::new());
         Self {
+            mode,
             checked: Checked { assignment, depths },
             work: Vec::new(),
         }
     }
 
-    /// As [`check`].
+    /// As [`check_in`].
     ///
     /// # Errors
-    /// As [`check`].
+    /// As [`check_in`].
     pub fn check(&mut self, code: &[u8], starts: &[u32]) -> Result<&Checked, Refusal> {
         self.make_room(code);
-        self.checked.assignment = check_into(code, starts, &mut self.checked.depths, &mut self.work)?;
+        self.checked.assignment = check_into(self.mode, code, starts, &mut self.checked.depths, &mut self.work)?;
         Ok(&self.checked)
     }
 
-    /// As [`explain`].
+    /// As [`explain_in`].
     ///
     /// # Errors
-    /// As [`explain`].
+    /// As [`explain_in`].
     pub fn explain(&mut self, code: &[u8], starts: &[u32]) -> Result<&Checked, CheckError> {
         self.make_room(code);
         let (mut greatest, mut told) = (0, [0; Reason::CELLS]);
         let Checked { assignment, depths } = &mut self.checked;
-        let answer = sys::explain(code, starts, depths, &mut self.work, &mut greatest, &mut told);
+        let answer = sys::explain(
+            self.mode as u8,
+            code,
+            starts,
+            depths,
+            &mut self.work,
+            &mut greatest,
+            &mut told,
+        );
         *assignment = Assignment::told(answer, greatest).map_err(|refusal| CheckError::new(refusal, told))?;
         Ok(&self.checked)
     }
@@ -226,7 +295,7 @@ mod tests {
 
     #[test]
     fn a_checker_answers_as_one_that_is_new() {
-        let mut checker = Checker::new();
+        let mut checkers = [Mode::Net, Mode::Strict].map(Checker::in_mode);
         let nops = vec![105; CODE_MOST + 1];
         for (code, starts) in [
             (&nops[..9], &[0, 3][..]),
@@ -239,13 +308,38 @@ mod tests {
             (&nops[..3], &[9, 9]),
             (&[], &[0, 1]),
             (&[6, 90, 1, 0, 5], &[0, 0]),
+            (&[5, 23, 47], &[0, 0]),
         ] {
-            let checked = check(code, starts);
-            assert_eq!(checker.check(code, starts).cloned(), checked);
-            let explained = checker.explain(code, starts).cloned();
-            assert_eq!(explained, explain(code, starts));
-            assert_eq!(explained.map_err(CheckError::refusal), checked);
+            for checker in &mut checkers {
+                let checked = check_in(checker.mode, code, starts);
+                assert_eq!(checker.check(code, starts).cloned(), checked);
+                let explained = checker.explain(code, starts).cloned();
+                assert_eq!(explained, explain_in(checker.mode, code, starts));
+                assert_eq!(explained.map_err(CheckError::refusal), checked);
+            }
         }
+    }
+
+    #[test]
+    fn strict_mode_asks_for_what_is_needed() {
+        let short = |code: &[u8], depth| explain_in(Mode::Strict, code, &[0, depth]).map_err(|error| error.reason());
+        // An addition, a Rot3 behind a Nop, a negation.
+        for (code, at, need) in [(&[23][..], 0, 2), (&[105, 3], 1, 3), (&[47], 0, 1)] {
+            let depth = need - 1;
+            let too_few = Some(Reason::TooFewValues { at, depth, need });
+            assert_eq!(short(code, depth.into()), Err(too_few));
+            assert_eq!(short(code, need.into()), Ok(check(code, &[0, need.into()]).unwrap()));
+        }
+        // Of two the first is named, though the other has less; what no start leads to needs nothing.
+        assert_eq!(
+            check_in(Mode::Strict, &[105, 23, 47], &[0, 1]),
+            Err(Refusal::TooFewValues(1))
+        );
+        let behind_a_return = [47, 101, 23];
+        assert_eq!(
+            check_in(Mode::Strict, &behind_a_return, &[0, 1]),
+            check(&behind_a_return, &[0, 1])
+        );
     }
 
     #[test]

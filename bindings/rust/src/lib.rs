@@ -38,7 +38,7 @@ mod sys;
 
 pub use asserts::{CmpOperator, assert_flags, decode_assert_flags};
 pub use builder::{CodeBuilder, JumpLabel, JumpTarget, Offset};
-pub use checker::{Assignment, Checked, Checker, NO_DEPTH, check, check_into, explain};
+pub use checker::{Assignment, Checked, Checker, Mode, NO_DEPTH, check, check_in, check_into, explain, explain_in};
 pub use code::{Code, CodeRange, ExceptionEntry, HandlerKind, LocationEntry, StringId};
 pub use decoder::{Instruction, Instructions, instructions, step};
 pub use listing::{listing, read_listing, read_listing_into};

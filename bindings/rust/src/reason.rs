@@ -1,10 +1,11 @@
-//! Why no depths can be given, as the library tells it beside 23, and the words for it.
+//! Why code is not accepted, as the library tells it beside 23 and 26, and the words for it.
 
 use std::{error::Error, fmt};
 
 use crate::Refusal;
 
-/// Why no depths can be given. Each depth is one that the instructions lead to from a start.
+/// Why no depths can be given, or in strict mode too few values are there. Each depth is one that the instructions lead
+/// to from a start.
 #[derive(Debug, Clone, Copy, PartialEq, Eq, Hash)]
 #[non_exhaustive]
 pub enum Reason {
@@ -36,6 +37,15 @@ pub enum Reason {
         /// The depth before it.
         depth: u16,
     },
+    /// In strict mode: an instruction needs more values than are on the stack. It is the first in the code that does.
+    TooFewValues {
+        /// The instruction's offset.
+        at: usize,
+        /// The depth before it.
+        depth: u16,
+        /// How many values it needs.
+        need: u16,
+    },
 }
 
 impl Reason {
@@ -54,6 +64,7 @@ impl Reason {
             2 => Self::DepthOutOfRange { at, depth },
             3 => Self::TakenOutOfRange { at, depth },
             4 => Self::NoPlace { at, depth },
+            5 => Self::TooFewValues { at, depth, need: other },
             _ => return None,
         })
     }
@@ -63,7 +74,10 @@ impl Reason {
     pub fn offset(self) -> usize {
         match self {
             Self::TwoDepths { place, .. } => place,
-            Self::DepthOutOfRange { at, .. } | Self::TakenOutOfRange { at, .. } | Self::NoPlace { at, .. } => at,
+            Self::DepthOutOfRange { at, .. }
+            | Self::TakenOutOfRange { at, .. }
+            | Self::NoPlace { at, .. }
+            | Self::TooFewValues { at, .. } => at,
         }
     }
 }
@@ -86,11 +100,12 @@ impl fmt::Display for Reason {
             Self::NoPlace { at, .. } => {
                 write!(f, "the jump at offset {at} leads to where no instruction starts")
             }
+            Self::TooFewValues { need, depth, .. } => write!(f, "it needs {need}, and {depth} is there"),
         }
     }
 }
 
-/// Why code was not accepted: the refusal, and for 23 the reason.
+/// Why code was not accepted: the refusal, and for 23 and 26 the reason.
 #[derive(Debug, Clone, Copy, PartialEq, Eq, Hash)]
 pub struct CheckError {
     refusal: Refusal,
@@ -100,7 +115,7 @@ pub struct CheckError {
 impl CheckError {
     pub(crate) fn new(refusal: Refusal, told: [u64; Reason::CELLS]) -> Self {
         let reason = match refusal {
-            Refusal::NoDepths => Reason::of(told),
+            Refusal::NoDepths | Refusal::TooFewValues(_) => Reason::of(told),
             _ => None,
         };
         Self { refusal, reason }
@@ -112,7 +127,7 @@ impl CheckError {
         self.refusal
     }
 
-    /// Why no depths can be given; none but for 23.
+    /// Why no depths can be given, or what is too little; none but for 23 and 26.
     #[must_use]
     pub fn reason(self) -> Option<Reason> {
         self.reason
@@ -152,10 +167,14 @@ mod tests {
                 [4, 5, 7, 0],
                 ": the jump at offset 5 leads to where no instruction starts",
             ),
-            ([5, 0, 0, 0], ""),
+            ([6, 0, 0, 0], ""),
         ] {
             assert_eq!(told(cells), format!("refused 23: no depths can be given{words}"));
         }
+        assert_eq!(
+            CheckError::new(Refusal::TooFewValues(12), [5, 12, 1, 2]).to_string(),
+            "refused 26 at offset 12: an instruction needs more values than the stack holds: it needs 2, and 1 is there"
+        );
     }
 
     #[test]

@@ -58,6 +58,8 @@ pub enum Refusal {
     NotALine,
     /// 25: a line's offset or target is not the one that results.
     Disagrees,
+    /// 26: in strict mode, the instruction at this offset needs more values than the stack holds there.
+    TooFewValues(usize),
     /// A number that this crate does not know, as its archive is newer than it.
     Other(u32),
 }
@@ -147,6 +149,7 @@ impl Refusal {
             23 => Self::NoDepths,
             24 => Self::NotALine,
             25 => Self::Disagrees,
+            26 => Self::TooFewValues(named as usize),
             other => Self::Other(other),
         }
     }
@@ -195,6 +198,7 @@ impl Refusal {
             Self::NoDepths => 23,
             Self::NotALine => 24,
             Self::Disagrees => 25,
+            Self::TooFewValues(_) => 26,
             Self::Other(number) => number,
         }
     }
@@ -203,7 +207,7 @@ impl Refusal {
     #[must_use]
     pub fn offset(self) -> Option<usize> {
         match self {
-            Self::UnknownOpcodeAt(offset) | Self::CutShort(offset) => Some(offset),
+            Self::UnknownOpcodeAt(offset) | Self::CutShort(offset) | Self::TooFewValues(offset) => Some(offset),
             _ => None,
         }
     }
@@ -247,6 +251,7 @@ impl Refusal {
             Self::NoDepths => "no depths can be given",
             Self::NotALine => "not a line that listing prints",
             Self::Disagrees => "the offset or the target is not the one that results",
+            Self::TooFewValues(_) => "an instruction needs more values than the stack holds",
             Self::Other(_) => "the library refuses by a number that this crate does not know",
         }
     }

@@ -19,6 +19,7 @@ mod c {
         pub fn tf_opcode_name(opcode: u8, out: *mut u8, room: usize) -> u64;
         pub fn tf_step(code: *const u8, length: usize, at: usize, out: *mut u64, room: usize) -> u64;
         pub fn tf_check(
+            mode: u8,
             code: *const u8,
             length: usize,
             starts: *const u32,
@@ -30,6 +31,7 @@ mod c {
             greatest: *mut u32,
         ) -> u64;
         pub fn tf_explain(
+            mode: u8,
             code: *const u8,
             length: usize,
             starts: *const u32,
@@ -276,9 +278,17 @@ pub fn step(code: &[u8], at: usize, out: &mut [u64]) -> Answer {
     Answer(unsafe { c::tf_step(code.as_ptr(), code.len(), at, out.as_mut_ptr(), out.len()) })
 }
 
-pub fn check(code: &[u8], starts: &[u32], depths: &mut [u32], work: &mut [u32], greatest: &mut u32) -> Answer {
+pub fn check(
+    mode: u8,
+    code: &[u8],
+    starts: &[u32],
+    depths: &mut [u32],
+    work: &mut [u32],
+    greatest: &mut u32,
+) -> Answer {
     Answer(unsafe {
         c::tf_check(
+            mode,
             code.as_ptr(),
             code.len(),
             starts.as_ptr(),
@@ -293,6 +303,7 @@ pub fn check(code: &[u8], starts: &[u32], depths: &mut [u32], work: &mut [u32], 
 }
 
 pub fn explain(
+    mode: u8,
     code: &[u8],
     starts: &[u32],
     depths: &mut [u32],
@@ -302,6 +313,7 @@ pub fn explain(
 ) -> Answer {
     Answer(unsafe {
         c::tf_explain(
+            mode,
             code.as_ptr(),
             code.len(),
             starts.as_ptr(),

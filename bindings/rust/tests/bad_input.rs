@@ -8,7 +8,7 @@ use std::ptr::{null, null_mut};
 
 use common::Random;
 use tokenfinch::{
-    Assignment, Checked, NO_DEPTH, Refusal, Table, check_into, explain, instructions,
+    Assignment, Checked, Mode, NO_DEPTH, Refusal, Table, check_into, explain_in, instructions,
     lent::{Emission, Lent, STATE_CELLS},
     lookups, step,
 };
@@ -222,15 +222,16 @@ fn any_bytes_and_slices() {
         let at = random.number(64) as usize;
         assert!(at < code.len() || step(&code, at) == Ok(None));
         let starts: Vec<u32> = (0..random.below(5)).map(|_| random.number(32) as u32).collect();
-        check_any(&code, &starts, [50, 50].map(|most| random.below(most) as u32));
+        let mode = [Mode::Net, Mode::Strict][random.below(2) as usize];
+        check_any(mode, &code, &starts, [50, 50].map(|most| random.below(most) as u32));
     }
 }
 
 /// The checker with slices of so many cells: what it may write, and what it may not.
-fn check_any(code: &[u8], starts: &[u32], cells: [u32; 2]) {
+fn check_any(mode: Mode, code: &[u8], starts: &[u32], cells: [u32; 2]) {
     let [depths_before, work_before] = cells.map(|cells| (7..7 + cells).collect::<Vec<u32>>());
     let (mut depths, mut work) = (depths_before.clone(), work_before.clone());
-    let answer = check_into(code, starts, &mut depths, &mut work);
+    let answer = check_into(mode, code, starts, &mut depths, &mut work);
     let used = code.len() + 1;
     let short = depths.len().min(work.len()) < used;
     assert_eq!(answer == Err(Refusal::ShortDepths), short);
@@ -243,20 +244,24 @@ fn check_any(code: &[u8], starts: &[u32], cells: [u32; 2]) {
             let given = depths[..used].iter().filter(|&&depth| depth != NO_DEPTH);
             assert_eq!(u32::from(greatest), given.max().copied().unwrap_or(0));
         }
-        Err(Refusal::NoDepths) => assert!(depths[..used].iter().all(|&depth| depth == NO_DEPTH)),
+        Err(Refusal::NoDepths | Refusal::TooFewValues(_)) => {
+            assert!(depths[..used].iter().all(|&depth| depth == NO_DEPTH));
+        }
         Err(_) => assert_eq!(depths[..used], depths_before[..used]),
     }
     assert_eq!(depths[used..], depths_before[used..]);
     assert!(work[..used].iter().all(|&cell| cell == 0));
     assert_eq!(work[used..], work_before[used..]);
-    let explained = explain(code, starts);
+    let explained = explain_in(mode, code, starts);
     let told = |checked: &Checked| (checked.count(), checked.greatest(), checked.depths().to_vec());
     assert_eq!(
         explained.as_ref().map(told).map_err(|error| error.refusal()),
         answer.map(|Assignment { count, greatest }| (count, greatest, depths[..used].to_vec()))
     );
     if let Err(error) = explained {
-        assert_eq!(error.reason().is_some(), error.refusal() == Refusal::NoDepths);
+        let reasoned = matches!(error.refusal(), Refusal::NoDepths | Refusal::TooFewValues(_));
+        assert_eq!(error.reason().is_some(), reasoned);
+        assert!(mode == Mode::Strict || !matches!(error.refusal(), Refusal::TooFewValues(_)));
     }
 }
 
@@ -301,6 +306,7 @@ unsafe extern "C" {
     fn tfb_add_const(value: u64, state: *mut u64, cells: usize, constants: *mut u64, room: usize) -> u64;
     fn tf_step(code: *const u8, length: usize, at: usize, out: *mut u64, room: usize) -> u64;
     fn tf_check(
+        mode: u8,
         code: *const u8,
         length: usize,
         starts: *const u32,
@@ -312,6 +318,7 @@ unsafe extern "C" {
         greatest: *mut u32,
     ) -> u64;
     fn tf_explain(
+        mode: u8,
         code: *const u8,
         length: usize,
         starts: *const u32,
@@ -381,10 +388,10 @@ fn null_and_no_cells() {
         let (one, other) = (&mut [0], &mut [0]);
         let [a, b, c, d] = &mut greatest;
         let checked = [
-            tf_check(null(), 0, null(), 0, null_mut(), 0, null_mut(), 0, a),
-            tf_check(null(), 0, null(), 0, one.as_mut_ptr(), 1, null_mut(), 0, b),
-            tf_check(null(), 0, null(), 0, one.as_mut_ptr(), 1, other.as_mut_ptr(), 1, c),
-            tf_explain(null(), 0, null(), 0, null_mut(), 0, null_mut(), 0, d, null_mut(), 0),
+            tf_check(0, null(), 0, null(), 0, null_mut(), 0, null_mut(), 0, a),
+            tf_check(0, null(), 0, null(), 0, one.as_mut_ptr(), 1, null_mut(), 0, b),
+            tf_check(0, null(), 0, null(), 0, one.as_mut_ptr(), 1, other.as_mut_ptr(), 1, c),
+            tf_explain(0, null(), 0, null(), 0, null_mut(), 0, null_mut(), 0, d, null_mut(), 0),
         ];
         [new, [dead[0], dead[1], live[0], live[1]], look, read, checked]
     };

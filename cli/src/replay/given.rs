@@ -1,7 +1,7 @@
 //! The lines that need no builder: the opcode rules, and the decoder, the checker, a lookup and the reading of a listing on
 //! what the line gives.
 
-use tokenfinch::{Assignment, Refusal, check_into, lookups, read_listing_into, rules, step};
+use tokenfinch::{Assignment, Mode, Refusal, check_into, lookups, read_listing_into, rules, step};
 
 use super::{
     out::Out,
@@ -63,32 +63,35 @@ impl Given {
         }
     }
 
-    /// `check HEX O D ..`
+    /// `check OPTIONS HEX O D ..`
     fn check(&mut self, mut words: Words<'_>, out: &mut Out) -> Option<()> {
+        let mode = words.mode();
         let code = words.bytes()?;
         let starts: Vec<u32> = words.numbers()?;
-        match self.checked([code.len() + 1; 2], &code, &starts) {
+        match self.checked(mode, [code.len() + 1; 2], &code, &starts) {
             Ok(assignment) => out.assigned(assignment).values(&self.depths),
             Err(refusal) => out.refused(refusal),
         };
         Some(())
     }
 
-    /// `check_slice CELLS WORK HEX O D ..`
+    /// `check_slice OPTIONS CELLS WORK HEX O D ..`
     fn check_slice(&mut self, mut words: Words<'_>, out: &mut Out) -> Option<()> {
+        let mode = words.mode();
         let cells = [words.size(CELLS_MOST)?, words.size(CELLS_MOST)?];
         let code = words.bytes()?;
         let starts: Vec<u32> = words.numbers()?;
-        self.check_sum(cells, &code, &starts, out);
+        self.check_sum(mode, cells, &code, &starts, out);
         Some(())
     }
 
-    /// `check_zeros N CELLS WORK`
+    /// `check_zeros OPTIONS N CELLS WORK`
     fn check_zeros(&mut self, mut words: Words<'_>, out: &mut Out) -> Option<()> {
+        let mode = words.mode();
         let length = words.size(ZEROS_MOST)?;
         let cells = [words.size(CELLS_MOST)?, words.size(CELLS_MOST)?];
         words.end()?;
-        self.check_sum(cells, &vec![NOP; length], &[], out);
+        self.check_sum(mode, cells, &vec![NOP; length], &[], out);
         Some(())
     }
 
@@ -107,8 +110,8 @@ impl Given {
     }
 
     /// A check with the sums of the whole slices that it was lent.
-    fn check_sum(&mut self, cells: [usize; 2], code: &[u8], starts: &[u32], out: &mut Out) {
-        match self.checked(cells, code, starts) {
+    fn check_sum(&mut self, mode: Mode, cells: [usize; 2], code: &[u8], starts: &[u32], out: &mut Out) {
+        match self.checked(mode, cells, code, starts) {
             Ok(assignment) => out.assigned(assignment),
             Err(refusal) => out.refused(refusal),
         };
@@ -116,10 +119,16 @@ impl Given {
     }
 
     /// A check that is lent so many cells of depths and of work.
-    fn checked(&mut self, [depths, work]: [usize; 2], code: &[u8], starts: &[u32]) -> Result<Assignment, Refusal> {
+    fn checked(
+        &mut self,
+        mode: Mode,
+        [depths, work]: [usize; 2],
+        code: &[u8],
+        starts: &[u32],
+    ) -> Result<Assignment, Refusal> {
         fill(&mut self.depths, depths);
         fill(&mut self.work, work);
-        check_into(code, starts, &mut self.depths, &mut self.work)
+        check_into(mode, code, starts, &mut self.depths, &mut self.work)
     }
 }
 

@@ -142,11 +142,9 @@ mod tests {
             "fnv1a 00",
             "table_number",
             "step table 4 05 0",
-            "check strict 05",
             "check table 4 05",
             "write_file 9",
             "read_file 1 1 1 1 1 1 00",
-            "check_slice strict 2 2 05",
             "check_zeros table 4 1 2 2",
             "draw 1 1 1 05",
             "locate 1 1",
@@ -160,9 +158,54 @@ mod tests {
             "set_location 1 2 clause 3",
             "tamper table 4",
             "paste 1 1 05 | | | |",
-            "check_here strict",
+            "check_here table 4",
         ]);
         assert_eq!(told, ["ok", "? 2", "? 3", "? 4", "? 5"]);
+    }
+
+    #[test]
+    fn strict_stands_in_front() {
+        // The sums are of 65536 three times and of zeros, of 3 10 twice, of 65536 and 0, of 1 0.
+        let told = told([
+            "check strict 0517 0 0",
+            "check 0517 0 0",
+            "check strict 050517 0 0",
+            "check strict - 0 3",
+            "check_slice strict 3 3 0517 0 0",
+            "check_slice strict 2 2 0517 0 0",
+            "check_zeros strict 0 1 1",
+            "new live 1 2 0 0 0 0 0 2",
+            "emit 23",
+            "check_here strict",
+            "check_here",
+            "check 0517 strict 0 0",
+            "check strict",
+            "check strict strict 05",
+            "check_here strict strict",
+            "check_slice 3 3 strict 05",
+        ]);
+        let blank = "994605";
+        assert_eq!(
+            told,
+            [
+                "refused 26 1",
+                "ok 2 1 0 1 0",
+                "ok 3 2 0 1 2 1",
+                "ok 0 3 3",
+                &format!("refused 26 1 {blank} 0"),
+                "refused 21 781 781",
+                "ok 0 0 15 0",
+                "ok",
+                "ok",
+                "refused 26 0",
+                "ok 1 1 257",
+                "? 12",
+                "? 13",
+                "? 14",
+                "? 15",
+                "? 16"
+            ]
+        );
     }
 
     #[test]

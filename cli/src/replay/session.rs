@@ -1,7 +1,7 @@
 //! The lines on a builder and its tables, and the way of every line to the call that it names.
 
 use tokenfinch::{
-    Refusal, Table, check,
+    Refusal, Table, check_in,
     lent::{Call, DEAD, DEAD_ROW, Emission, Lent, STATE_CELLS},
     lookups::{self, Row},
 };
@@ -339,12 +339,13 @@ impl Session {
         Some(())
     }
 
-    /// The checker over the used code and starts.
-    fn check_here(&self, words: Words<'_>, out: &mut Out) -> Option<()> {
+    /// `check_here OPTIONS`: the checker over the used code and starts.
+    fn check_here(&self, mut words: Words<'_>, out: &mut Out) -> Option<()> {
+        let mode = words.mode();
         words.end()?;
         let code = used(&self.lent.code, self.lent.count(Table::Code), 1)?;
         let starts = used(&self.lent.starts, self.lent.count(Table::Starts), 2)?;
-        match check(code, starts) {
+        match check_in(mode, code, starts) {
             Ok(checked) => out
                 .ok()
                 .value(checked.count())

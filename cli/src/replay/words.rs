@@ -1,6 +1,6 @@
 //! The words of a line. A word that is not what is asked for answers none, which goes all the way up to `? LINE`.
 
-use tokenfinch::Table;
+use tokenfinch::{Mode, Table};
 
 /// The most bytes that can be given in hexadecimal.
 const BYTES_MOST: usize = 500_000;
@@ -94,6 +94,16 @@ impl<'a> Words<'a> {
 
     pub fn table(&mut self) -> Option<Table> {
         table(self.word()?)
+    }
+
+    /// The options of a check: the word `strict`, or none.
+    pub fn mode(&mut self) -> Mode {
+        let mut behind = *self;
+        if behind.word() == Some(b"strict") {
+            *self = behind;
+            return Mode::Strict;
+        }
+        Mode::Net
     }
 
     /// Names to the line's end.

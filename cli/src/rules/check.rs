@@ -6,28 +6,36 @@ use std::{
     io::{self, BufWriter, Write},
 };
 
-use tokenfinch::{CheckError, explain};
+use tokenfinch::{CheckError, Mode, Reason, explain_in};
 
 use super::{Outcome, Trouble, read, reasons::Refused, said, watch};
 
 /// The most bytes of a rule.
 const CODE_MOST: u64 = 1_048_576;
 
-/// `--watch` may stand anywhere; the first other word is the rule, those behind it are starts.
+/// `--watch` and `--strict` may stand anywhere; the first other word is the rule, those behind it are starts.
 pub fn run(words: &[OsString]) -> Outcome {
-    let (options, others): (Vec<_>, Vec<_>) = words.iter().partition(|word| *word == "--watch");
+    let (watched, others): (Vec<_>, Vec<_>) = words.iter().partition(|word| *word == "--watch");
+    let (mode, others) = mode(&others);
     let (file, starts) = asked("check", &others)?;
-    if options.is_empty() {
-        once(file, &starts)
+    if watched.is_empty() {
+        once(mode, file, &starts)
     } else {
-        watch::run(file, &starts)
+        watch::run(mode, file, &starts)
     }
 }
 
-fn once(file: &OsStr, starts: &[u32]) -> Outcome {
+/// Whether `--strict` is among the words, and the others.
+pub fn mode<'a>(words: &[&'a OsString]) -> (Mode, Vec<&'a OsString>) {
+    let (strict, others): (Vec<_>, Vec<_>) = words.iter().partition(|word| **word == "--strict");
+    let mode = if strict.is_empty() { Mode::Net } else { Mode::Strict };
+    (mode, others)
+}
+
+fn once(mode: Mode, file: &OsStr, starts: &[u32]) -> Outcome {
     let code = rule(file)?;
     let mut out = BufWriter::new(io::stdout().lock());
-    let checked = explain(&code, starts);
+    let checked = explain_in(mode, &code, starts);
     match &checked {
         Ok(checked) => {
             // The library made these bytes, and is proved to; they are handed on unread.
@@ -64,6 +72,7 @@ pub fn refused(code: &[u8], starts: &[u32], error: CheckError) -> String {
         end: "at the end",
     };
     let named = match error.reason() {
+        Some(Reason::TooFewValues { at, .. }) => return format!("offset {at}: {} (26)", refused.words(error)),
         Some(reason) => Some(reason.offset()),
         None => error.refusal().offset(),
     };
@@ -119,11 +128,20 @@ mod tests {
 
     #[test]
     fn a_refusal_is_one_line() {
-        let told =
-            |code: &[u8], starts: &[u32]| refused(code, starts, explain(code, starts).expect_err("it is refused"));
+        let told = |code: &[u8], starts: &[u32]| {
+            refused(
+                code,
+                starts,
+                explain_in(Mode::Strict, code, starts).expect_err("it is refused"),
+            )
+        };
         assert_eq!(
             told(&[5, 0, 0], &[0, 0]),
             "refused 23 at offset 2: Pop needs at least 1 value on the stack; it has none here"
+        );
+        assert_eq!(
+            told(&[5, 23], &[0, 0]),
+            "offset 1: BinaryAdd needs 2 values, 1 is there (26)"
         );
         assert_eq!(
             told(&[5, 8], &[0, 0]),

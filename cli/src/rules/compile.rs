@@ -8,7 +8,7 @@ use std::{
     process,
 };
 
-use tokenfinch::{explain, read_listing};
+use tokenfinch::{Mode, explain_in, read_listing};
 
 use super::{Outcome, Trouble, check as checking, meeting, misread, read, said};
 
@@ -21,6 +21,7 @@ struct Asked<'a> {
     listing: &'a OsStr,
     /// None where the code is not to be checked.
     starts: Option<Vec<u32>>,
+    mode: Mode,
     /// None for standard output.
     output: Option<&'a Path>,
 }
@@ -37,7 +38,7 @@ pub fn run(words: &[OsString]) -> Outcome {
         }
     };
     if let Some(starts) = &asked.starts {
-        if let Err(error) = explain(&code, starts) {
+        if let Err(error) = explain_in(asked.mode, &code, starts) {
             eprintln!("{}", meeting::why(&shown, &code, starts, error));
             return Ok(false);
         }
@@ -67,13 +68,16 @@ fn asked(words: &[OsString]) -> Result<Asked<'_>, Trouble> {
             _ => others.push(word),
         }
     }
+    let (mode, others) = checking::mode(&others);
     let Some((listing, starts)) = others.split_first() else {
         return Err(said(
             "compile takes a listing, or - for standard input, starts OFFSET:DEPTH and -o FILE",
         ));
     };
-    if unchecked && !starts.is_empty() {
-        return Err(said("starts are for the check, which --unchecked leaves out"));
+    if unchecked && (mode == Mode::Strict || !starts.is_empty()) {
+        return Err(said(
+            "starts and --strict are for the check, which --unchecked leaves out",
+        ));
     }
     let starts = if unchecked {
         None
@@ -83,6 +87,7 @@ fn asked(words: &[OsString]) -> Result<Asked<'_>, Trouble> {
     Ok(Asked {
         listing,
         starts,
+        mode,
         output: output.filter(|file| *file != "-").map(Path::new),
     })
 }
@@ -152,7 +157,12 @@ mod tests {
     fn told(words: &[&str]) -> Result<String, String> {
         let words: Vec<OsString> = words.iter().map(OsString::from).collect();
         match asked(&words) {
-            Ok(asked) => Ok(format!("{:?} {:?} {:?}", asked.listing, asked.starts, asked.output)),
+            Ok(Asked {
+                listing,
+                starts,
+                mode,
+                output,
+            }) => Ok(format!("{listing:?} {starts:?} {mode:?} {output:?}")),
             Err(Trouble::Said(why)) => Err(why),
             Err(_) => Err("unsaid".to_owned()),
         }
@@ -160,13 +170,17 @@ mod tests {
 
     #[test]
     fn options_stand_anywhere() {
-        let whole = Ok(r#""a" Some([4, 1]) Some("b")"#.to_owned());
+        let whole = Ok(r#""a" Some([4, 1]) Net Some("b")"#.to_owned());
         assert_eq!(told(&["a", "4:1", "-o", "b"]), whole);
         assert_eq!(told(&["-o", "b", "a", "4:1"]), whole);
-        assert_eq!(told(&["-"]), Ok(r#""-" Some([0, 0]) None"#.to_owned()));
+        assert_eq!(told(&["-"]), Ok(r#""-" Some([0, 0]) Net None"#.to_owned()));
+        assert_eq!(
+            told(&["a", "--strict", "-o", "b"]),
+            Ok(r#""a" Some([0, 0]) Strict Some("b")"#.to_owned())
+        );
         assert_eq!(
             told(&["a", "--unchecked", "-o", "-"]),
-            Ok(r#""a" None None"#.to_owned())
+            Ok(r#""a" None Net None"#.to_owned())
         );
         for words in [
             &[][..],
@@ -178,5 +192,6 @@ mod tests {
             assert!(told(words).is_err(), "{words:?}");
         }
         assert!(told(&["a", "0:0", "--unchecked"]).is_err());
+        assert!(told(&["a", "--strict", "--unchecked"]).is_err());
     }
 }

@@ -33,6 +33,7 @@ impl<N: Fn(usize) -> String> Refused<'_, N> {
             Reason::DepthOutOfRange { at, depth } => behind(&self.instruction(at)?, depth),
             Reason::TakenOutOfRange { at, depth } => taken(&self.instruction(at)?, depth),
             Reason::NoPlace { at, .. } => astray(&self.instruction(at)?),
+            Reason::TooFewValues { at, depth, need } => Some(too_few(&self.instruction(at)?, depth, need)),
             _ => None,
         }
     }
@@ -92,19 +93,33 @@ fn taken(read: &Instruction<'_>, depth: u16) -> Option<String> {
 
 /// Which end of the range, by the effect's direction. What is taken off in the end has to be there at least.
 fn beyond(effect: i32, depth: u16) -> String {
-    let (values, by) = match effect.unsigned_abs() {
-        1 => ("value", 1),
-        by => ("values", by),
-    };
+    let by = values(effect.unsigned_abs());
     if effect > 0 {
-        return format!("adds {by} {values} to the stack; it has {depth} here, and 65,535 is the most");
+        return format!("adds {by} to the stack; it has {depth} here, and 65,535 is the most");
     }
     let has = if depth == 0 {
         "none".to_owned()
     } else {
         depth.to_string()
     };
-    format!("needs at least {by} {values} on the stack; it has {has} here")
+    format!("needs at least {by} on the stack; it has {has} here")
+}
+
+/// An instruction that strict mode does not let pass.
+fn too_few(read: &Instruction<'_>, depth: u16, need: u16) -> String {
+    let there = match depth {
+        0 => "none is".to_owned(),
+        1 => "1 is".to_owned(),
+        more => format!("{more} are"),
+    };
+    format!("{:?} needs {}, {there} there", read.opcode(), values(need.into()))
+}
+
+fn values(number: u32) -> String {
+    match number {
+        1 => "1 value".to_owned(),
+        number => format!("{number} values"),
+    }
 }
 
 fn astray(read: &Instruction<'_>) -> Option<String> {
@@ -117,6 +132,8 @@ fn astray(read: &Instruction<'_>) -> Option<String> {
 
 #[cfg(test)]
 mod tests {
+    use tokenfinch::Mode;
+
     use super::*;
 
     fn told(code: &[u8], starts: &[u32]) -> String {
@@ -183,6 +200,23 @@ mod tests {
         ] {
             assert_eq!(told(code, &starts), words);
         }
+    }
+
+    #[test]
+    fn what_strict_mode_misses_is_told() {
+        let told = |code: &[u8], depth| {
+            let refused = Refused {
+                code,
+                starts: &[0, depth],
+                name: |offset| format!("offset {offset}"),
+                end: "at the end",
+            };
+            let error = tokenfinch::explain_in(Mode::Strict, code, &[0, depth]).expect_err("it is refused");
+            refused.words(error)
+        };
+        assert_eq!(told(&[23], 1), "BinaryAdd needs 2 values, 1 is there");
+        assert_eq!(told(&[3], 2), "Rot3 needs 3 values, 2 are there");
+        assert_eq!(told(&[47], 0), "UnaryNeg needs 1 value, none is there");
     }
 
     #[test]

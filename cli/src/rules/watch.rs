@@ -8,7 +8,7 @@ use std::{
     time::{Duration, Instant, SystemTime},
 };
 
-use tokenfinch::Checker;
+use tokenfinch::{Checker, Mode};
 
 use super::{Outcome, Trouble, check, said};
 
@@ -19,11 +19,11 @@ const PAUSE: Duration = Duration::from_millis(100);
 type Stamp = (u64, SystemTime);
 
 /// Goes on until it is ended from outside, or nobody reads its lines.
-pub fn run(file: &OsStr, starts: &[u32]) -> Outcome {
+pub fn run(mode: Mode, file: &OsStr, starts: &[u32]) -> Outcome {
     if file == "-" {
         return Err(said("--watch takes a file, and not standard input"));
     }
-    let mut checker = Checker::new();
+    let mut checker = Checker::in_mode(mode);
     // What is wrong with the file at first is said; later an editor may be putting a new one in its place.
     let mut seen = stamp(file);
     let mut code = Some(check::rule(file)?);

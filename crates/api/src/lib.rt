@@ -42,6 +42,7 @@ use text::listing;
 
 mod answers;
 mod cells;
+mod modes;
 mod operands;
 mod pairs;
 mod parts;
@@ -243,21 +244,26 @@ pub extern "C" fn tf_write(
 
 #[no_mangle]
 pub extern "C" fn tf_check(
+    mode: u8,
     code: &[u8],
     starts: &[u32],
     depths: &mut [u32],
     work: &mut [u32],
     greatest: &mut u32,
 ) -> u64
-    ensures { λ r. ⌜ ChecksTold (now (code .entry)) (now (starts .entry)) (now (depths .entry)) (now (depths .exit))
+    ensures { λ r. ⌜ ChecksTold mode (now (code .entry)) (now (starts .entry)) (now (depths .entry)) (now (depths .exit))
         (now (work .entry)) (now (work .exit)) (now (greatest .entry)) (now (greatest .exit)) r ⌝ }
 {
-    let checked = checker::check(code, starts, depths, work);
+    if modes::LAST < mode {
+        return answers::refused(Refusal::WrongShape);
+    }
+    let checked = strict::check(modes::of_number(mode), code, starts, depths, work);
     answers::tell_checked(checked, greatest)
 }
 
 #[no_mangle]
 pub extern "C" fn tf_explain(
+    mode: u8,
     code: &[u8],
     starts: &[u32],
     depths: &mut [u32],
@@ -265,14 +271,18 @@ pub extern "C" fn tf_explain(
     greatest: &mut u32,
     told: &mut [u64],
 ) -> u64
-    ensures { λ r. ⌜ ExplainsTold (now (code .entry)) (now (starts .entry)) (now (depths .entry)) (now (depths .exit))
-        (now (work .entry)) (now (work .exit)) (now (told .entry)) (now (told .exit)) (now (greatest .entry))
-        (now (greatest .exit)) r ⌝ }
+    ensures { λ r. ⌜ ExplainsTold mode (now (code .entry)) (now (starts .entry)) (now (depths .entry))
+        (now (depths .exit)) (now (work .entry)) (now (work .exit)) (now (told .entry)) (now (told .exit))
+        (now (greatest .entry)) (now (greatest .exit)) r ⌝ }
 {
     if told.len() < 4 {
         return answers::refused(Refusal::Full(Table::Text));
     }
-    reasons::tell_explained(checker::explain(code, starts, depths, work), greatest, told)
+    if modes::LAST < mode {
+        return answers::refused(Refusal::WrongShape);
+    }
+    let verdict = strict::explain(modes::of_number(mode), code, starts, depths, work);
+    reasons::tell_verdict(verdict, greatest, told)
 }
 
 #[no_mangle]

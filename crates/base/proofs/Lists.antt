@@ -1,14 +1,14 @@
 -- Lists: elements by number, members of a mapped list, and cells of lists of numbers.
 -- Assumes nothing.
-use mathlib.Core.Path.{_≡_, refl, ap}
+use mathlib.Core.Path.{_≡_, refl, ap, _∙_}
 use mathlib.Core.Logic.{_⊎_, inl, inr, _≢_}
-use mathlib.Core.List.{List, [], _∷_, _++_, map, List·Memᴰ as Mem, List·Memᴰ·head as mhead, List·Memᴰ·tail as mtail}
+use mathlib.Core.List.{List, [], _∷_, _++_, append-nil, map, List·Memᴰ as Mem, List·Memᴰ·head as mhead, List·Memᴰ·tail as mtail}
 use mathlib.Core.Option.{some}
-use Prim.Native.Nat.{ℕ, zero, suc, _+_, _<_}
+use Prim.Native.Nat.{ℕ, zero, suc, _+_, _≤_, _<_}
 use native.Mathlib.Nat.{zero-add, suc-add, not-suc-le-zero, le-of-suc-le-suc}
 use native.Mathlib.Omega.{arith}
-use lib.ListN.{length, getD, take, drop, set, getElem?}
-use lib.Seq.{getD-drop}
+use lib.ListN.{length, getD, take, drop, set, replicate, getElem?}
+use lib.Seq.{getD-drop, drop-length}
 use Rattle.base.proofs.Bools.{clash}
 
 module _ {A : Type 0} where
@@ -80,3 +80,11 @@ getD-any (x ∷ c) (suc o) a b l = getD-any c o a b (le-of-suc-le-suc l)
 pub set-skip : (a l : List ℕ) (i v : ℕ) → set (a ++ l) (length a + i) v ≡ a ++ set l i v
 set-skip [] l i v = rw zero-add
 set-skip (x ∷ a) l i v = rw (suc-add (length a) i) (ap (λ (y : List ℕ). x ∷ y) (set-skip a l i v))
+
+-- where all cells were passed that get one value, all hold it
+pub filled : (d c : List ℕ) (i v : ℕ) → length d ≤ i → i ≤ length d → c ≡ replicate i v ++ drop i d
+    → c ≡ replicate (length d) v
+filled d c i v l m e =
+    let z : i ≡ length d = omega arith in
+    e ∙ ap (λ (n : ℕ). replicate n v ++ drop n d) z ∙ ap (λ (x : List ℕ). replicate (length d) v ++ x) (drop-length d)
+    ∙ append-nil (replicate (length d) v)

@@ -76,6 +76,7 @@ refusal-back (R.CutShort offset) h = absurd (h offset .1 refl)
 refusal-back R.NoDepths h = refl
 refusal-back R.NotALine h = refl
 refusal-back R.Disagrees h = refl
+refusal-back (R.TooFewValues offset) h = absurd (h offset .2 refl)
 
 refusals-apart : (r s : Refusal) → RefusalExact r → RefusalExact s → refusalTold r ≡ refusalTold s → r ≡ s
 refusals-apart r s hr hs e =

@@ -5,7 +5,7 @@
 use mathlib.Core.Path.{_≡_}
 use Prim.Native.Nat.{ℕ, _<_}
 use Rattle.op.specs.declared.Refusal.{Refusal}
-use Rattle.op.specs.declared.Refusal.the-variants.{UnknownOpcodeAt, CutShort}
+use Rattle.op.specs.declared.Refusal.the-variants.{UnknownOpcodeAt, CutShort, TooFewValues}
 use Rattle.builder.specs.declared.Added.{Added}
 use Rattle.builder.specs.declared.Added.the-variants as N
 use Rattle.builder.specs.declared.Answer.{Answer}
@@ -40,6 +40,7 @@ TargetExact (T.Row row) = row < deadRow
 abbrev pub RefusalExact : Refusal → Type 0
 RefusalExact refusal =
     (offset : ℕ) → (refusal ≡ UnknownOpcodeAt offset → ⊥) × (refusal ≡ CutShort offset → ⊥)
+    × (refusal ≡ TooFewValues offset → ⊥)
 
 abbrev pub AnswerExact : Answer → Type 0
 AnswerExact (A.Accepted after) = Unit {0}

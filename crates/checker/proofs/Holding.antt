@@ -2,15 +2,15 @@
 -- Assumes nothing.
 use mathlib.Core.Path.{_≡_, refl, sym, ap, subst, _∙_}
 use mathlib.Core.Bool.{Bool, true, false, cond}
-use mathlib.Core.List.{List, [], _∷_, _++_, append-nil}
+use mathlib.Core.List.{List, [], _∷_, _++_}
 use mathlib.Core.Option.{some, none}
 use Prim.Native.Nat.{ℕ, zero, suc, _+_, _-_, _≤_, _<_}
 use native.Mathlib.Omega.{arith}
 use native.Mathlib.Decide.{decLt, ℕ-discrete}
 use native.Mathlib.Nat.{le-of-suc-le-suc, not-suc-le-zero}
 use lib.Dec.{leb}
-use lib.ListN.{length, getD, set, take, drop, replicate, length-replicate, getD-replicate, List·getD-eq-default}
-use lib.Seq.{getD-set-same, getD-set-other, take-suc, take-length, drop-length}
+use lib.ListN.{length, getD, set, take, replicate, length-replicate, getD-replicate, List·getD-eq-default}
+use lib.Seq.{getD-set-same, getD-set-other, take-suc, take-length}
 use borrow.Author.Tests.{le-leb, lt-leb, leb-true}
 use Rattle.base.proofs.Bools.{clash}
 use Rattle.base.proofs.Lists.{getD-any}
@@ -52,13 +52,6 @@ pub cell-in : (c : List ℕ) (o : ℕ) → (cell c o ≡ 65536 → ⊥) → o < 
 cell-in c o n = elim (decLt o (length c)) [ yes l ↦ l | no g ↦ absurd (n (List·getD-eq-default c 65536 (omega arith))) ]
 
 -- all cells hold one value
-
-pub filled : (d c : List ℕ) (i v : ℕ) → length d ≤ i → i ≤ length d → c ≡ replicate i v ++ drop i d
-    → c ≡ replicate (length d) v
-filled d c i v l m e =
-    let z : i ≡ length d = omega arith in
-    e ∙ ap (λ (n : ℕ). replicate n v ++ drop n d) z ∙ ap (λ (x : List ℕ). replicate (length d) v ++ x) (drop-length d)
-    ∙ append-nil (replicate (length d) v)
 
 pub all-size : (n v : ℕ) (c : List ℕ) → c ≡ replicate n v → length c ≡ n
 all-size n v c e = ap length e ∙ length-replicate n v

@@ -165,15 +165,24 @@ past (passes n b) no-way on = on n b
 not-refused : {r : Checked} {a : Assignment} {q : Refusal} → r ≡ Accepted a → r ≡ Refused q → ⊥
 not-refused {r} {a} {q} e h = clash cc
 
+-- what was accepted has no fault, and a solution
+accepted-all : (last : ℕ) (s st d d′ w w′ : List ℕ) {r : Checked} {a : Assignment} → Promise last s st d d′ w w′ r
+    → r ≡ Accepted a → NoFault last s × Accepts last s st d d′ w w′ r
+unfolding Promise
+accepted-all last s st d d′ w w′ P e =
+    past P (λ q a. absurd (not-refused e (a .0))) (λ n P.
+    past P (λ q a. absurd (not-refused e (a .0))) (λ n P.
+    past P (λ q a. absurd (not-refused e (a .0))) (λ whole P.
+    past P (λ q a. absurd (not-refused e (a .0))) (λ n P.
+    past P (λ q a. absurd (not-refused e (a .0))) (λ n P. (whole, P))))))
+
 pub accepted : {last : ℕ} {s st d d′ w w′ : List ℕ} {r : Checked} {a : Assignment} → Promise last s st d d′ w w′ r
     → r ≡ Accepted a → Accepts last s st d d′ w w′ r
-unfolding Promise
-accepted P e =
-    past P (λ q a. absurd (not-refused e (a .0))) (λ n P.
-    past P (λ q a. absurd (not-refused e (a .0))) (λ n P.
-    past P (λ q a. absurd (not-refused e (a .0))) (λ n P.
-    past P (λ q a. absurd (not-refused e (a .0))) (λ n P.
-    past P (λ q a. absurd (not-refused e (a .0))) (λ n P. P)))))
+accepted P e = accepted-all _ _ _ _ _ _ _ P e .1
+
+pub accepted-whole : (last : ℕ) (s st d d′ w w′ : List ℕ) {r : Checked} {a : Assignment}
+    → Promise last s st d d′ w w′ r → r ≡ Accepted a → NoFault last s
+accepted-whole last s st d d′ w w′ P e = accepted-all last s st d d′ w w′ P e .0
 
 -- what is behind a stop that cannot be
 passed : {P A : Refusal → Type 0} {B : Type 0} → Unless P A B → ((q : Refusal) → P q → ⊥) → B

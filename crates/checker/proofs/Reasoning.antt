@@ -3,6 +3,7 @@
 use mathlib.Core.Path.{_≡_, ap, _∙_}
 use mathlib.Core.Bool.{Bool, true, false, cond}
 use mathlib.Core.List.{List, [], _∷_}
+use mathlib.Core.Logic.{_⊎_, ⊎-elim, inl, inr}
 use mathlib.Core.Option.{some}
 use Prim.Native.Nat.{ℕ}
 use lib.Dec.{leb}
@@ -10,7 +11,7 @@ use lib.ListN.{length, drop}
 use Rattle.base.proofs.Bools.{clash}
 use Rattle.op.specs.declared.Operand.{Operand}
 use Rattle.op.specs.declared.Refusal.{Refusal}
-use Rattle.op.specs.declared.Refusal.the-variants.{NoDepths, CutShort}
+use Rattle.op.specs.declared.Refusal.the-variants.{NoDepths, UnknownOpcodeAt, CutShort}
 use Rattle.op.specs.declared.Shaped.{Shaped}
 use Rattle.op.specs.declared.Shaped.the-variants as P
 use Rattle.code.specs.declared.Step.the-variants.{Instr, Refused}
@@ -36,27 +37,33 @@ because-impossible (NoPlace o d) B = λ a A.
 pub reason-enough : ReasonEnough
 reason-enough last s st why B = because-impossible why B
 
--- a step refuses 1 or 22 alone
+-- a step refuses 1 or 22 alone, with an offset
 
-step-not : (at k : ℕ) (o : Operand) (z : ℕ) (b : Bool) → cond b (Instr k o z) (Refused (CutShort at)) ≡ Refused NoDepths
-    → ⊥
-step-not at k o z true e = clash cc
-step-not at k o z false e = clash cc
+abbrev pub OfReading : Refusal → Type 0
+OfReading q = (o : ℕ) × ((q ≡ UnknownOpcodeAt o) ⊎ (q ≡ CutShort o))
 
-whole-not : (at : ℕ) (u : List ℕ) (x : Shaped) → whole at x u ≡ Refused NoDepths → ⊥
+step-is : (at k : ℕ) (o : Operand) (z : ℕ) (q : Refusal) (b : Bool)
+    → cond b (Instr k o z) (Refused (CutShort at)) ≡ Refused q → OfReading q
+step-is at k o z q true e = clash cc
+step-is at k o z q false e = (at, inr cc)
+
+whole-is : (at : ℕ) (u : List ℕ) (q : Refusal) (x : Shaped) → whole at x u ≡ Refused q → OfReading q
 unfolding stepIn
-whole-not at u (P.Is s) e = step-not at _ _ _ (leb (sizeByNames s u) (length u)) e
-whole-not at u (P.Refused r) e = clash cc
+whole-is at u q (P.Is s) e = step-is at _ _ _ q (leb (sizeByNames s u) (length u)) e
+whole-is at u q (P.Refused r) e = (at, inl cc)
 
-decode-not : (last at : ℕ) (u : List ℕ) → decode last at u ≡ Refused NoDepths → ⊥
+decode-is : (last at : ℕ) (u : List ℕ) (q : Refusal) → decode last at u ≡ Refused q → OfReading q
 unfolding decode
-decode-not last at [] e = clash cc
-decode-not last at (k ∷ u) e = whole-not at (k ∷ u) (shapeUpTo last k) e
+decode-is last at [] q e = clash cc
+decode-is last at (k ∷ u) q e = whole-is at (k ∷ u) q (shapeUpTo last k) e
+
+pub fault-is : {last : ℕ} {s : List ℕ} {q : Refusal} → Faulty last s q → OfReading q
+fault-is {last} {s} {q} A = by-reading 0 (A .is)
+  where
+    by-reading : (at : ℕ) → readFrom last s at .fault ≡ some q → OfReading q
+    by-reading = read-ind last s (λ at read. read .fault ≡ some q → OfReading q) (λ at k o z e later h. later h)
+        (λ at e h. clash cc)
+        (λ at r e h. decode-is last at (drop at s) q (let i : r ≡ q = cc in e ∙ ap Refused i))
 
 pub fault-not : {last : ℕ} {s : List ℕ} {q : Refusal} → Faulty last s q → q ≡ NoDepths → ⊥
-fault-not {last} {s} {q} A e = none-read 0 (A .is ∙ ap some e)
-  where
-    none-read : (at : ℕ) → readFrom last s at .fault ≡ some NoDepths → ⊥
-    none-read = read-ind last s (λ at read. read .fault ≡ some NoDepths → ⊥) (λ at k o z e later h. later h)
-        (λ at e h. clash cc)
-        (λ at r e h. decode-not last at (drop at s) (let i : r ≡ NoDepths = cc in e ∙ ap Refused i))
+fault-not {last} {s} {q} A e = ⊎-elim (λ i. clash cc) (λ i. clash cc) (fault-is A .1)

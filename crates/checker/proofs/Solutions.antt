@@ -89,7 +89,7 @@ offsets-all i (x ∷ c) (suc j) o w l h =
     one false m = m
 
 -- an offset before the end that is a place has an instruction, where there is no fault
-stands-by : {last : ℕ} (s : List ℕ) (o : ℕ) (x : Flowing) → flowOf last o (drop o s) ≡ x → NoFault last s
+pub stands-by : {last : ℕ} (s : List ℕ) (o : ℕ) (x : Flowing) → flowOf last o (drop o s) ≡ x → NoFault last s
     → Place last s o → o < length s → (f : Flow) × Stands last s o f
 stands-by s o (F.Op f) e whole p l = (f, record { is = e })
 stands-by {last} s o F.End e whole p l = absurd (omega (arith, ends-over last s o e))

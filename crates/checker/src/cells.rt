@@ -1,22 +1,11 @@
 // The cells alone.
 ghost use mathlib.Core.Path.{_≡_};
 ghost use Prim.Native.Nat.{_-_, _<_};
-ghost use lib.ListN.{length, replicate, take};
+ghost use lib.ListN.{length, take};
 ghost use Rattle.checker.specs.Cells.{held};
 ghost use Rattle.checker.specs.Inner.{greater, greatestIn};
 use code::NO_DEPTH;
 use code::WORD_MAX;
-
-// Each cell gets one value.
-pub fn fill(cells: &mut [u32], v: u32)
-    ensures { λ _. ⌜ now (cells .exit) ≡ replicate (length (now (cells .entry))) v ⌝ }
-{
-    let mut i = 0;
-    while i < cells.len() {
-        cells[i] = v;
-        i += 1;
-    }
-}
 
 // How many cells before the last hold a depth, of `all` that do.
 pub fn before_last(cells: &[u32], all: usize) -> usize

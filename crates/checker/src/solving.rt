@@ -13,6 +13,7 @@ use crate::cells;
 use crate::lists;
 use crate::walks;
 use code::NO_DEPTH;
+use code::lent;
 use op::Refusal;
 
 // The smallest assignment with its count and its greatest depth, or why there is none.
@@ -22,11 +23,11 @@ fn solve(code: &[u8], starts: &[u32], cells: &mut [u32], work: &mut [u32]) -> Ex
     ensures { λ r. ⌜ Examined lastOpcode (now (code .entry)) (now (starts .entry)) (now (cells .entry))
         (now (cells .exit)) r ⌝ }
 {
-    cells::fill(cells, NO_DEPTH);
+    lent::fill(cells, NO_DEPTH);
     let came = lists::reach(code, starts, cells, work);
     match came {
         Went::Stuck(why) => {
-            cells::fill(cells, NO_DEPTH);
+            lent::fill(cells, NO_DEPTH);
             Explained::Unsolved(why)
         }
         Went::On(taken) => Explained::Accepted(Assignment {
@@ -69,8 +70,8 @@ pub fn within(code: &[u8], starts: &[u32], cells: &mut [u32], work: &mut [u32]) 
     ensures { λ r. ⌜ Examined lastOpcode (now (code .entry)) (now (starts .entry)) (now (cells .entry))
         (now (cells .exit)) r × (now (work .exit) ≡ replicate (suc (length (now (code .entry)))) 0) ⌝ }
 {
-    cells::fill(work, 0);
+    lent::fill(work, 0);
     let examined = examine(code, starts, cells, work);
-    cells::fill(work, 0);
+    lent::fill(work, 0);
     examined
 }

@@ -7,6 +7,7 @@ use op::Refusal;
 pub mod decoder;
 pub mod entries;
 pub mod flows;
+pub mod lent;
 pub mod lookups;
 mod numbers;
 pub mod reading;

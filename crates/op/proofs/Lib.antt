@@ -4,4 +4,6 @@ pub mod Rules
 pub mod Flagged
 pub mod Effected
 pub mod Named
+pub mod InWords
+pub mod Needed
 pub mod Shaping

@@ -1,7 +1,7 @@
 -- Numbers of our own that op's private functions tell each other: no rule says them, and no reader has to believe them.
 -- Assumes nothing.
 use mathlib.Core.List.{List, [], _∷_}
-use Prim.Native.Nat.{ℕ}
+use Prim.Native.Nat.{ℕ, _*_, _/_, _%_, _^_}
 use lib.ListN.{getD}
 use Rattle.op.specs.Opcodes.{Rule, minus3, minus2, minus1, same, plus1, plus2, minus-n, one-minus-n, one-minus-2n, n-minus-one, both, minus-both, one-minus-both, extended, format, assert, assert-failed, match-keys, rowOf}
 use Rattle.op.specs.Effects.{ruleIn}
@@ -40,3 +40,17 @@ ruleAt e = getD rules e match-keys
 -- the number of an opcode's rule
 unfoldable pub ruleNo : ℕ → ℕ
 ruleNo k = ruleNumber (ruleIn (rowOf k))
+
+-- the number at a place of a word of eight numbers, the first in the lowest byte
+abbrev pub numberIn : ℕ → ℕ → ℕ
+numberIn word place = word / 2 ^ (8 * place) % 256
+
+-- the needs of all opcodes in such words
+abbrev pub needWords : List ℕ
+needWords =
+    0x00_00_00_00_03_02_01_00 ∷ 0x00_00_00_00_00_00_00_00 ∷ 0x02_00_00_00_00_00_00_00 ∷
+    0x02_02_02_02_02_02_02_02 ∷ 0x02_02_02_02_02_02_02_02 ∷ 0x01_01_02_02_02_02_02_02 ∷
+    0x02_02_02_02_02_02_01_01 ∷ 0x00_00_02_02_02_02_02_02 ∷ 0x00_00_00_00_00_00_00_00 ∷
+    0x00_00_00_00_02_00_00_00 ∷ 0x00_00_00_00_00_00_00_00 ∷ 0x00_00_00_00_00_00_00_00 ∷
+    0x00_00_00_00_00_00_00_00 ∷ 0x00_00_00_02_00_00_00_00 ∷ 0x00_00_00_00_00_00_00_00 ∷
+    0x00_00_00_00_00_00_00_00 ∷ 0x00_00_00_00_00_00_00_00 ∷ []

@@ -7,3 +7,4 @@ pub mod Depths
 pub mod Flags
 pub mod Names
 pub mod Inner
+pub mod Needs

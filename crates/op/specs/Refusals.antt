@@ -34,6 +34,7 @@ numberOf (R.CutShort offset) = 22
 numberOf R.NoDepths = 23
 numberOf R.NotALine = 24
 numberOf R.Disagrees = 25
+numberOf (R.TooFewValues offset) = 26
 
 -- the tables by number (R62)
 abbrev pub tableNumber : Table → ℕ
@@ -50,7 +51,7 @@ tableNumber T.Text = 8
 abbrev pub half : ℕ
 half = 4294967296
 
--- what a refusal names: 18 its table; 1 read from code, and 22, the offset, modulo 2^32; any other nothing (R62)
+-- what a refusal names: 18 its table; 1 read from code, 22 and 26 the offset, modulo 2^32; any other nothing (R62)
 abbrev pub namedOf : Refusal → ℕ
 namedOf R.UnknownOpcode = 0
 namedOf (R.UnknownOpcodeAt offset) = offset % half
@@ -78,6 +79,7 @@ namedOf (R.CutShort offset) = offset % half
 namedOf R.NoDepths = 0
 namedOf R.NotALine = 0
 namedOf R.Disagrees = 0
+namedOf (R.TooFewValues offset) = offset % half
 
 -- a refusal as one answer: its number, and below it what it names (R62)
 abbrev pub answerOf : Refusal → ℕ

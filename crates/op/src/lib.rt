@@ -6,8 +6,10 @@ pub mod depths;
 pub mod effects;
 pub mod flags;
 pub mod names;
+pub mod needs;
 pub mod opcodes;
 pub mod refusals;
+mod rows;
 pub mod shapes;
 
 // A lent table, which refusal 18 names.
@@ -77,6 +79,8 @@ pub enum Refusal {
     NotALine,
     // 25: an offset or a target that disagrees with what results
     Disagrees,
+    // 26: in strict mode, an instruction at this offset that has fewer values on the stack than it needs
+    TooFewValues(usize),
 }
 
 // The layout of an opcode's operand bytes.

@@ -36,6 +36,7 @@ pub fn number(refusal: Refusal) -> u8
         Refusal::NoDepths => 23,
         Refusal::NotALine => 24,
         Refusal::Disagrees => 25,
+        Refusal::TooFewValues(_) => 26,
     }
 }
 
@@ -93,6 +94,7 @@ pub fn named(refusal: Refusal) -> u32
         Refusal::NoDepths => 0,
         Refusal::NotALine => 0,
         Refusal::Disagrees => 0,
+        Refusal::TooFewValues(offset) => low(offset),
     }
 }
 

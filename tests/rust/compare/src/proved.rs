@@ -31,6 +31,7 @@ mod c {
             count: usize,
         ) -> u64;
         pub unsafe fn tf_check(
+            mode: u8,
             code: *const u8,
             length: usize,
             starts: *const u32,
@@ -42,6 +43,7 @@ mod c {
             greatest: *mut u32,
         ) -> u64;
         pub unsafe fn tf_explain(
+            mode: u8,
             code: *const u8,
             length: usize,
             starts: *const u32,
@@ -200,11 +202,24 @@ pub struct Lent {
     pub greatest: u32,
 }
 
-pub fn check(code: &[u8], starts: &[u32], lent: &mut Lent) -> Answer {
+impl Lent {
+    /// Just as many cells as are asked for.
+    pub fn just(code: &[u8]) -> Self {
+        let cells = vec![0; code.len() + 1];
+        Self {
+            depths: cells.clone(),
+            work: cells,
+            greatest: u32::MAX,
+        }
+    }
+}
+
+pub fn check(mode: u8, code: &[u8], starts: &[u32], lent: &mut Lent) -> Answer {
     let Lent { depths, work, greatest } = lent;
     // SAFETY: the four slices are as long as is said.
     Answer(unsafe {
         c::tf_check(
+            mode,
             code.as_ptr(),
             code.len(),
             starts.as_ptr(),
@@ -218,11 +233,12 @@ pub fn check(code: &[u8], starts: &[u32], lent: &mut Lent) -> Answer {
     })
 }
 
-pub fn explain(code: &[u8], starts: &[u32], lent: &mut Lent, told: &mut [u64]) -> Answer {
+pub fn explain(mode: u8, code: &[u8], starts: &[u32], lent: &mut Lent, told: &mut [u64]) -> Answer {
     let Lent { depths, work, greatest } = lent;
     // SAFETY: the five slices are as long as is said.
     Answer(unsafe {
         c::tf_explain(
+            mode,
             code.as_ptr(),
             code.len(),
             starts.as_ptr(),

@@ -93,6 +93,12 @@ enum-told-22 c = search needs
 enum-told-23 : tie.Need-enum-told-23
 enum-told-23 c = search needs
 
+enum-known-refusal-4 : tie.Need-enum-known-refusal-4
+enum-known-refusal-4 c = search needs
+
+low-requires-3 : tie.Need-low-requires-3
+low-requires-3 c κs = search needs
+
 returns : tie.Need-returns
 returns c = sym (ap namedOf (c .enum-told .given .1))
 
@@ -171,6 +177,9 @@ returns-25 c = sym (ap namedOf (c .enum-told22 .given .1))
 returns-26 : tie.Need-returns-26
 returns-26 c = sym (ap namedOf (c .enum-told23 .given .1))
 
+returns-27 : tie.Need-returns-27
+returns-27 c = c .low3 .ensures ∙ sym (ap namedOf (c .before .before .refusal4 .given .1))
+
 pub named-spec : {M : Type 1} → statement M
 named-spec =
     tie.close
@@ -204,6 +213,8 @@ named-spec =
     enum-told-21
     enum-told-22
     enum-told-23
+    enum-known-refusal-4
+    low-requires-3
     returns
     returns-2
     returns-3
@@ -229,4 +240,5 @@ named-spec =
     returns-23
     returns-24
     returns-25
-    returns-26)
+    returns-26
+    returns-27)

@@ -84,6 +84,9 @@ enum-told-25 c = search needs
 enum-told-26 : tie.Need-enum-told-26
 enum-told-26 c = search needs
 
+enum-told-27 : tie.Need-enum-told-27
+enum-told-27 c = search needs
+
 returns : tie.Need-returns
 returns c = sym (ap numberOf (c .enum-told .given .1))
 
@@ -162,6 +165,9 @@ returns-25 c = sym (ap numberOf (c .enum-told25 .given .1))
 returns-26 : tie.Need-returns-26
 returns-26 c = sym (ap numberOf (c .enum-told26 .given .1))
 
+returns-27 : tie.Need-returns-27
+returns-27 c = sym (ap numberOf (c .enum-told27 .given .1))
+
 pub number-spec : {M : Type 1} → statement M
 number-spec =
     tie.close
@@ -192,6 +198,7 @@ number-spec =
     enum-told-24
     enum-told-25
     enum-told-26
+    enum-told-27
     returns
     returns-2
     returns-3
@@ -217,4 +224,5 @@ number-spec =
     returns-23
     returns-24
     returns-25
-    returns-26)
+    returns-26
+    returns-27)

@@ -6,13 +6,16 @@ use super::explained::{self, Case};
 use crate::{
     Plan,
     random::Random,
-    reference::{Decoder, depths::Depths},
+    reference::{
+        Decoder,
+        depths::{Depths, Mode},
+    },
     script::{self, Refusals, Script},
     tally::{Expected, Tally},
 };
 
 /// Bytes that stand for what instructions can do: Pop, LoadNone, Jump, JumpIfTrue, JumpIfTrueOrPop, ForIter, ReturnValue,
-/// Raise, Nop; and of displacements, 1 and -3 to -6.
+/// Raise, Nop; and of displacements, 1, which is Dup too, and -3 to -6.
 const BYTES: [u8; 14] = [0, 5, 88, 89, 91, 94, 101, 97, 105, 1, 0xfd, 0xfc, 0xfa, 0xff];
 
 pub fn run(tally: &mut Tally, plan: &mut Plan) {
@@ -76,11 +79,11 @@ fn hex(code: &[u8]) -> String {
 fn short(tally: &mut Tally, plan: &mut Plan, script: &mut Script, decoder: &Decoder, code: &[u8], search: bool) {
     for starts in few_starts(code) {
         let words: String = starts.iter().map(|number| format!(" {number}")).collect();
-        let answer = script.say(format!("check {}{words}", hex(code)));
+        let [answer, _] = Mode::BOTH.map(|mode| script.say(format!("check{} {}{words}", mode.word(), hex(code))));
         if search {
             // One byte moves a depth by one at most, and no start is above 2.
             let searched = Depths::searched(decoder, code, &starts, 2 + code.len() as i64);
-            let carried = Depths::new(decoder, code, &starts, code.len() + 1);
+            let carried = Depths::new(decoder, code, &starts, code.len() + 1, Mode::Net);
             let told =
                 |depths: Result<Depths, _>| depths.map(|depths| (depths.count(), depths.greatest(), depths.held()));
             tally.compare(told(carried), Expected::by_text(told(searched)), || {
@@ -97,7 +100,7 @@ pub fn long(random: &mut Random) -> Case {
     let mut code = Vec::new();
     let mut places = vec![0_u32];
     for _ in 0..random.below(30) {
-        match random.below(8) {
+        match random.below(9) {
             0 => code.extend([88 + [0, 1, 2, 3, 4, 6][random.below(6)], random.below(12) as u8, 0]),
             1 => code.extend([
                 88 + [0, 1, 2, 3, 4, 6][random.below(6)],
@@ -108,6 +111,7 @@ pub fn long(random: &mut Random) -> Case {
             3 => code.extend([4, random.u8(), random.u8()]),
             4 => code.push([0, 101, 97, 105][random.below(4)]),
             5 => code.extend([83, random.below(3) as u8, 1, random.u8(), 0]),
+            6 => code.push([1, 2, 3, 23, 36, 47, 50, 75, 108][random.below(9)]),
             _ => code.push(5),
         }
         places.push(code.len() as u32);
@@ -137,11 +141,12 @@ pub fn long(random: &mut Random) -> Case {
 fn line(random: &mut Random, case: &Case) -> String {
     let starts: String = case.starts.iter().map(|number| format!(" {number}")).collect();
     let code = hex(&case.code);
+    let strict = Mode::BOTH[random.below(2)].word();
     if random.below(3) == 0 {
         let [cells, work] = [(); 2].map(|()| case.code.len() + random.below(6));
-        format!("check_slice {cells} {work} {code}{starts}")
+        format!("check_slice{strict} {cells} {work} {code}{starts}")
     } else {
-        format!("check {code}{starts}")
+        format!("check{strict} {code}{starts}")
     }
 }
 
@@ -160,6 +165,7 @@ fn edges(script: &mut Script) {
         (131_072, 131_073, 131_072),
     ] {
         script.say(format!("check_zeros {bytes} {cells} {work}"));
+        script.say(format!("check_zeros strict {bytes} {cells} {work}"));
     }
     for bytes in [1_048_575, 1_048_576, 1_048_577, 1_048_600, 1_048_601] {
         script.say(format!("check_zeros {bytes} 131072 131072"));

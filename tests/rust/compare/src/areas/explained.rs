@@ -9,7 +9,7 @@ use crate::{
     random::Random,
     reference::{
         Decoder,
-        depths::{Depths, Program},
+        depths::{Depths, Mode, Program},
         reasons,
     },
     tally::{Expected, Tally},
@@ -46,34 +46,36 @@ impl fmt::Display for Case {
 /// The answer of a check, and what it was lent as it leaves it.
 type Left = (Answer, Lent);
 
-/// One case with slices of about the length that is asked for.
+/// One case in both modes with slices of about the length that is asked for.
 pub fn one(tally: &mut Tally, decoder: &Decoder, random: &mut Random, case: &Case) {
-    let lengths = [(); 2].map(|()| (case.code.len() + 6).saturating_sub(random.below(8)));
-    lent(tally, decoder, random, case, lengths);
+    for mode in Mode::BOTH {
+        let lengths = [(); 2].map(|()| (case.code.len() + 6).saturating_sub(random.below(8)));
+        lent(tally, decoder, random, case, mode, lengths);
+    }
 }
 
 /// A case with slices of these lengths, by both functions.
-fn lent(tally: &mut Tally, decoder: &Decoder, random: &mut Random, case: &Case, lengths: [usize; 2]) {
+fn lent(tally: &mut Tally, decoder: &Decoder, random: &mut Random, case: &Case, mode: Mode, lengths: [usize; 2]) {
     let Case { code, starts } = case;
     let [depths, work] = lengths.map(|length| pattern(random, length));
     let greatest = pattern(random, 1)[0];
     let lent = Lent { depths, work, greatest };
-    let due = due(decoder, case, lent.clone());
-    let shown = |what: &str| format!("{what} of {case}, lent {lengths:?}");
-    let checked = call(&lent, |lent| proved::check(code, starts, lent));
+    let due = due(decoder, case, mode, lent.clone());
+    let shown = |what: &str| format!("{what} of {case}, {mode:?}, lent {lengths:?}");
+    let checked = call(&lent, |lent| proved::check(mode as u8, code, starts, lent));
     tally.compare(&checked, Expected::by_text(&due), || shown("tf_check"));
 
     let mut told = vec![FILLING; [0, 3, 4, 4, 4, 7][random.below(6)]];
-    let explained = call(&lent, |lent| proved::explain(code, starts, lent, &mut told));
+    let explained = call(&lent, |lent| proved::explain(mode as u8, code, starts, lent, &mut told));
     let due = if told.len() < 4 { (Answer::no_room(), lent) } else { due };
     tally.compare(&explained, Expected::by_text(&due), || shown("tf_explain"));
     reasoned(tally, decoder, case, explained.0.refusal(), &told);
 }
 
-/// What is told: on 23 a reason that holds, and nothing else.
+/// What is told: on 23 and 26 a reason that holds, and nothing else.
 fn reasoned(tally: &mut Tally, decoder: &Decoder, case: &Case, refusal: u32, told: &[u64]) {
     let (reason, kept) = match told.split_first_chunk::<4>() {
-        Some((reason, kept)) if refusal == 23 => (Some(*reason), kept),
+        Some((reason, kept)) if matches!(refusal, 23 | 26) => (Some(*reason), kept),
         _ => (None, told),
     };
     tally.compare(
@@ -82,9 +84,12 @@ fn reasoned(tally: &mut Tally, decoder: &Decoder, case: &Case, refusal: u32, tol
         || format!("what is told of {case}: {told:?}"),
     );
     if let Some(reason) = reason {
-        tally.compare(holds(decoder, case, reason), Expected::by_text(true), || {
-            format!("the reason of {case}: {reason:?}")
-        });
+        let strict = reason[0] == reasons::TOO_FEW;
+        tally.compare(
+            (strict, holds(decoder, case, reason)),
+            Expected::by_text((refusal == 26, true)),
+            || format!("the reason of {case}: {reason:?}"),
+        );
     }
 }
 
@@ -103,34 +108,31 @@ fn call(lent: &Lent, check: impl FnOnce(&mut Lent) -> Answer) -> Left {
 }
 
 /// What a check has to leave.
-fn due(decoder: &Decoder, case: &Case, mut lent: Lent) -> Left {
+fn due(decoder: &Decoder, case: &Case, mode: Mode, mut lent: Lent) -> Left {
     let used = case.code.len() + 1;
     let cells = lent.depths.len().min(lent.work.len());
-    let checked = Depths::new(decoder, &case.code, &case.starts, cells);
+    let checked = Depths::new(decoder, &case.code, &case.starts, cells, mode);
     if !matches!(checked, Err((10 | 21, _))) {
         lent.work[..used].fill(0);
     }
-    let answer = match checked {
-        Err((number, offset)) => Answer::naming(number, offset.unwrap_or(0) as u32),
-        Ok(checked) => {
-            for (cell, held) in lent.depths.iter_mut().zip(checked.held()) {
-                *cell = held as u32;
-            }
-            match checked.count() {
-                Some(count) => {
-                    lent.greatest = checked.greatest() as u32;
-                    Answer::accepted(count as i32)
-                }
-                None => Answer::refused(23),
-            }
+    let counted = checked.and_then(|checked| {
+        for (cell, held) in lent.depths.iter_mut().zip(checked.held()) {
+            *cell = held as u32;
         }
+        let count = checked.count()?;
+        lent.greatest = checked.greatest() as u32;
+        Ok(count)
+    });
+    let answer = match counted {
+        Ok(count) => Answer::accepted(count as i32),
+        Err((number, offset)) => Answer::naming(number, offset.unwrap_or(0) as u32),
     };
     (answer, lent)
 }
 
 fn holds(decoder: &Decoder, case: &Case, reason: reasons::Told) -> bool {
-    let program = Program::read(decoder, &case.code).expect("23 comes behind 1 and 22");
-    let starts = program.starts(&case.starts).expect("23 comes behind 20");
+    let program = Program::read(decoder, &case.code).expect("23 and 26 come behind 1 and 22");
+    let starts = program.starts(&case.starts).expect("23 and 26 come behind 20");
     reasons::holds(&program, &starts, reason)
 }
 
@@ -153,10 +155,17 @@ pub fn large(tally: &mut Tally, decoder: &Decoder, plan: &mut Plan) {
         // Each jumps to the next one, or over it.
         straight(&[6, 89, 0, 0, 6, 90, 4, 0], most - 8, &[105; 8]),
         straight(&[6, 89, 0, 0, 6, 90, 4, 0], most - 8, &[5; 8]),
+        // The last instruction has too little for strict mode.
+        straight(&[5, 0], most - 2, &[5, 2]),
     ] {
         let cells = case.code.len() + 1;
-        for lengths in [[cells; 2], [cells - 1, cells + 3], [cells + 3, cells - 1]] {
-            lent(tally, decoder, &mut plan.random, &case, lengths);
+        for (mode, lengths) in [
+            (Mode::Net, [cells; 2]),
+            (Mode::Strict, [cells; 2]),
+            (Mode::Net, [cells - 1, cells + 3]),
+            (Mode::Strict, [cells + 3, cells - 1]),
+        ] {
+            lent(tally, decoder, &mut plan.random, &case, mode, lengths);
         }
     }
 }

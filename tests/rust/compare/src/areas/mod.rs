@@ -22,6 +22,7 @@ mod read_back;
 mod shape;
 mod size;
 mod stack;
+mod strict;
 mod taken;
 mod write;
 
@@ -29,7 +30,7 @@ use crate::{Plan, original, tally::Tally};
 
 pub type Area = fn(&mut Tally, &mut Plan);
 
-pub const ALL: [(&str, Area); 22] = [
+pub const ALL: [(&str, Area); 23] = [
     ("shape", shape::run),
     ("effect", effect::run),
     ("taken", taken::run),
@@ -49,6 +50,7 @@ pub const ALL: [(&str, Area); 22] = [
     ("checker", checks::run),
     ("stack paths", stack::searched),
     ("stack built", stack::built),
+    ("strict", strict::run),
     ("left behind", left::run),
     ("moved", moved::run),
     ("read back", read_back::run),

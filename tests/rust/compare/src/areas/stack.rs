@@ -10,7 +10,11 @@ use crate::{
     Plan,
     original::Shown,
     proved::{self, Answer, Lent},
-    reference::{Decoder, depths::Program, paths},
+    reference::{
+        Decoder,
+        depths::{Mode, Program},
+        paths,
+    },
     script,
     tally::{Expected, Tally},
 };
@@ -72,11 +76,6 @@ fn while_built(tally: &mut Tally, code: Vec<u8>, shown: &Shown) {
 }
 
 fn checked(code: &[u8], starts: &[u32]) -> (Answer, Lent) {
-    let cells = vec![0; code.len() + 1];
-    let mut lent = Lent {
-        depths: cells.clone(),
-        work: cells,
-        greatest: u32::MAX,
-    };
-    (proved::check(code, starts, &mut lent), lent)
+    let mut lent = Lent::just(code);
+    (proved::check(Mode::Net as u8, code, starts, &mut lent), lent)
 }

@@ -82,8 +82,12 @@ impl Sequence {
             | "decode_assert_flags"
             | "step"
             | "check"
+            | "check strict"
             | "check_slice"
-            | "check_zeros" => return None,
+            | "check_slice strict"
+            | "check_zeros"
+            | "check_zeros strict"
+            | "check_here strict" => return None,
             _ => {}
         }
         let Some(mut builder) = self.builder.take() else {

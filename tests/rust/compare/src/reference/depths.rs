@@ -27,6 +27,27 @@ pub struct Instruction {
     pub falls: bool,
     /// The displacement's goal and the taken effect.
     pub jump: Option<(i64, i64)>,
+    /// How many values strict mode asks for.
+    pub need: i64,
+}
+
+/// What a check asks of an instruction's depth.
+#[derive(Clone, Copy, Debug, PartialEq)]
+pub enum Mode {
+    Net,
+    Strict,
+}
+
+impl Mode {
+    pub const BOTH: [Self; 2] = [Self::Net, Self::Strict];
+
+    /// The word in a line, with the space in front of it.
+    pub fn word(self) -> &'static str {
+        match self {
+            Self::Net => "",
+            Self::Strict => " strict",
+        }
+    }
 }
 
 /// A refusal's number, and the offset that it names.
@@ -116,6 +137,22 @@ fn instruction(cells: &Cells, offset: usize) -> Instruction {
         net: op.stack_effect(given).into(),
         falls,
         jump,
+        need: need(op),
+    }
+}
+
+/// "Binary, Compare and Inplace opcodes, BinarySubscr and Rot2 need depth 2, Rot3 needs 3, the Unary opcodes and Dup need
+/// 1, Dup2 needs 2", by the names of op.rs.
+pub fn need(op: Opcode) -> i64 {
+    let name = format!("{op:?}");
+    let kind = |words: &[&str]| words.iter().any(|word| name.starts_with(word));
+    match name.as_str() {
+        "Rot3" => 3,
+        "Rot2" | "Dup2" => 2,
+        "Dup" => 1,
+        _ if kind(&["Binary", "Compare", "Inplace"]) => 2,
+        _ if kind(&["Unary"]) => 1,
+        _ => 0,
     }
 }
 
@@ -132,12 +169,13 @@ pub fn makes_dead(op: Opcode) -> bool {
 pub struct Depths {
     places: Vec<Option<i64>>,
     instructions: usize,
-    accepted: bool,
+    /// 23, or 26 with its offset.
+    refused: Option<Fault>,
 }
 
 impl Depths {
     /// 10, 21, 1 or 22, 20.
-    pub fn new(decoder: &Decoder, code: &[u8], starts: &[u32], cells: usize) -> Result<Self, Fault> {
+    pub fn new(decoder: &Decoder, code: &[u8], starts: &[u32], cells: usize, mode: Mode) -> Result<Self, Fault> {
         if code.len() > CODE_MOST {
             return Err((10, None));
         }
@@ -146,7 +184,25 @@ impl Depths {
         }
         let program = Program::read(decoder, code)?;
         let starts = program.starts(starts)?;
-        Ok(Self::carried(&program, starts))
+        let carried = Self::carried(&program, starts);
+        Ok(match mode {
+            Mode::Net => carried,
+            Mode::Strict => carried.strictly(&program),
+        })
+    }
+
+    /// "26, in strict mode only, when the old mode accepts and some instruction with a depth has too little, naming the lowest
+    /// such offset; after it the depth cells read as after 23."
+    fn strictly(mut self, program: &Program) -> Self {
+        let short = |&offset: &usize| match (program.instruction(offset), self.places[offset]) {
+            (Some(instruction), Some(depth)) => depth < instruction.need,
+            _ => false,
+        };
+        if let Some(offset) = (0..program.end).find(short) {
+            self.places.fill(None);
+            self.refused = Some((26, Some(offset)));
+        }
+        self
     }
 
     /// Each depth carried to where its instruction leads.
@@ -170,11 +226,15 @@ impl Depths {
                 break;
             }
         }
-        let instructions = places[..program.end].iter().flatten().count();
+        Self::of(places, accepted)
+    }
+
+    fn of(places: Vec<Option<i64>>, accepted: bool) -> Self {
+        let (_end, instructions) = places.split_last().expect("the end is a place");
         Self {
+            instructions: instructions.iter().flatten().count(),
+            refused: (!accepted).then_some((23, None)),
             places,
-            instructions,
-            accepted,
         }
     }
 
@@ -191,9 +251,9 @@ impl Depths {
         self.places.iter().flatten().max().map_or(0, |&depth| depth as u64)
     }
 
-    /// The instructions that have a depth; none for 23.
-    pub fn count(&self) -> Option<usize> {
-        self.accepted.then_some(self.instructions)
+    /// The instructions that have a depth; or 23 or 26.
+    pub fn count(&self) -> Result<usize, Fault> {
+        self.refused.map_or(Ok(self.instructions), Err)
     }
 
     /// The same by trying every assignment of depths up to `most` and taking what is part of all that fit.
@@ -224,12 +284,7 @@ impl Depths {
         );
         let accepted = fitting.is_some();
         let places = fitting.unwrap_or_else(|| vec![None; program.end + 1]);
-        let instructions = places[..program.end].iter().flatten().count();
-        Ok(Self {
-            places,
-            instructions,
-            accepted,
-        })
+        Ok(Self::of(places, accepted))
     }
 }
 

@@ -1,4 +1,4 @@
-//! Whether a reason that is told beside 23 holds, by the rules' text: each depth that it names is carried there from a
+//! Whether a reason that is told beside 23 or 26 holds, by the rules' text: each depth that it names is carried there from a
 //! start, along fall-throughs and taken jumps, and what it says of the instruction is so. Found by a search over all pairs
 //! of a place and a depth, nearest to the starts first.
 
@@ -15,6 +15,9 @@ type Pair = (usize, i64);
 /// A reason as it is told: its kind, an offset, a depth and another.
 pub type Told = [u64; 4];
 
+/// The kind of 26.
+pub const TOO_FEW: u64 = 5;
+
 /// Whether the reason holds in a program with these starts.
 pub fn holds(program: &Program, starts: &[Pair], told: Told) -> bool {
     let [kind, offset, depth, other] = told;
@@ -26,7 +29,9 @@ pub fn holds(program: &Program, starts: &[Pair], told: Told) -> bool {
     let Some(instruction) = program.instruction(offset) else {
         return false;
     };
-    other == 0 && fails(program, &instruction, kind, depth) && carried(program, starts, &[one])
+    // The last number is what is needed, where that is the reason.
+    let asked = if kind == TOO_FEW { instruction.need } else { 0 };
+    other == asked && fails(program, &instruction, kind, depth) && carried(program, starts, &[one])
 }
 
 /// Whether an instruction at a depth has the fault of a kind.
@@ -35,6 +40,7 @@ fn fails(program: &Program, instruction: &Instruction, kind: u64, depth: i64) ->
         (2, _) => !in_range(depth + instruction.net),
         (3, Some((_, effect))) => !in_range(depth + effect),
         (4, Some((goal, _))) => !program.is_place(goal),
+        (TOO_FEW, _) => depth < instruction.need,
         _ => false,
     }
 }

@@ -30,6 +30,7 @@ pub fn tampered(random: &mut Random, lines: usize) -> Script {
         TABLES.iter().for_each(|table| _ = script.say(format!("sum {table}")));
         script.say("stack_depth");
         script.say("check_here");
+        script.say("check_here strict");
     }
     script
 }
@@ -181,7 +182,7 @@ fn given(random: &mut Random) -> String {
     match random.below(10) {
         0 => format!("step {hex} {a}"),
         1 => format!("check {hex} {a} {b}"),
-        2 => format!("check {hex} 0 0 {a}"),
+        2 => format!("check strict {hex} 0 0 {a}"),
         3 => format!("check_slice {} {} {hex} 0 {b}", random.below(16), random.below(16)),
         4 => {
             let [bytes, cells, work] = [(); 3].map(|()| random.below(9));

@@ -10,7 +10,7 @@ use crate::{
     original,
     reference::{
         self, Decoder, Step,
-        depths::{Depths, makes_dead},
+        depths::{Depths, Mode, makes_dead},
         listed::Reader,
     },
 };
@@ -147,10 +147,15 @@ impl Model {
             | "assert_flags"
             | "decode_assert_flags"
             | "step" => self.alone(call),
-            "check" | "check_slice" | "check_zeros" => return Some(self.check_given(call)),
+            "check" | "check_slice" | "check_zeros" => return Some(self.check_given(call.name, Mode::Net, call)),
+            "check strict" | "check_slice strict" | "check_zeros strict" => {
+                let name = call.name.trim_end_matches(" strict");
+                return Some(self.check_given(name, Mode::Strict, call));
+            }
             "read_listing" => return Some(self.read_listing(&call.bytes, filled(call.numbers[0] as usize))),
             _ if !self.built => return None,
-            "check_here" => return self.check_here(),
+            "check_here" => return self.check_here(Mode::Net),
+            "check_here strict" => return self.check_here(Mode::Strict),
             "tamper" | "tamper depth" | "poke" | "counts" | "cells" | "sum" => self.look(call)?,
             "location_for_offset" | "find_exception_handler" | "constant" | "local_name" => self.look_up(call)?,
             _ => self.build_call(call),
@@ -687,62 +692,62 @@ impl Model {
 
     // The depth checker.
 
-    fn check_given(&self, call: &Call) -> String {
+    fn check_given(&self, name: &str, mode: Mode, call: &Call) -> String {
         let starts = |from: usize| {
             call.numbers[from..]
                 .iter()
                 .map(|&number| number as u32)
                 .collect::<Vec<u32>>()
         };
-        match call.name {
+        match name {
             "check" => {
                 let mut lent = Lent::just(&call.bytes);
-                match self.check(&call.bytes, &starts(0), &mut lent) {
+                match self.check(mode, &call.bytes, &starts(0), &mut lent) {
                     Ok(values) => format!("ok{values}{}", joined(lent.depths.iter().copied())),
                     Err(refusal) => refusal.text(),
                 }
             }
-            "check_slice" => self.check_sum(&call.bytes, &starts(2), Lent::of(&call.numbers[..2])),
+            "check_slice" => self.check_sum(mode, &call.bytes, &starts(2), Lent::of(&call.numbers[..2])),
             _ => {
                 let zeros = vec![105; call.numbers[0] as usize];
-                self.check_sum(&zeros, &[], Lent::of(&call.numbers[1..]))
+                self.check_sum(mode, &zeros, &[], Lent::of(&call.numbers[1..]))
             }
         }
     }
 
-    fn check_sum(&self, code: &[u8], starts: &[u32], mut lent: Lent) -> String {
-        let answer = match self.check(code, starts, &mut lent) {
+    fn check_sum(&self, mode: Mode, code: &[u8], starts: &[u32], mut lent: Lent) -> String {
+        let answer = match self.check(mode, code, starts, &mut lent) {
             Ok(values) => format!("ok{values}"),
             Err(refusal) => refusal.text(),
         };
         format!("{answer} {} {}", sum(lent.depths), sum(lent.work))
     }
 
-    fn check_here(&self) -> Option<String> {
+    fn check_here(&self, mode: Mode) -> Option<String> {
         let code: Vec<u8> = self.used(CODE)?.iter().map(|&byte| byte as u8).collect();
         let starts: Vec<u32> = self.used(STARTS)?.iter().map(|&cell| cell as u32).collect();
         let mut lent = Lent::just(&code);
-        Some(match self.check(&code, &starts, &mut lent) {
+        Some(match self.check(mode, &code, &starts, &mut lent) {
             Ok(values) => format!("ok{values} {}", sum(lent.depths)),
             Err(refusal) => refusal.text(),
         })
     }
 
     /// The count and the greatest depth.
-    fn check(&self, code: &[u8], starts: &[u32], lent: &mut Lent) -> Answer {
+    fn check(&self, mode: Mode, code: &[u8], starts: &[u32], lent: &mut Lent) -> Answer {
         let refused = |(number, offset)| Refusal {
             number,
             table: None,
             offset,
         };
         let cells = lent.depths.len().min(lent.work.len());
-        let depths = Depths::new(&self.decoder, code, starts, cells);
+        let depths = Depths::new(&self.decoder, code, starts, cells, mode);
         if !matches!(depths, Err((10 | 21, _))) {
             lent.work[..=code.len()].fill(0);
         }
         let checked = depths.map_err(refused)?;
         lent.depths[..=code.len()].copy_from_slice(&checked.held());
-        let count = checked.count().ok_or_else(|| refused((23, None)))?;
+        let count = checked.count().map_err(refused)?;
         Ok(joined([count as u64, checked.greatest()]))
     }
 }

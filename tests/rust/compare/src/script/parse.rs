@@ -40,7 +40,7 @@ const DEPTHS_MOST: i128 = 2_000_000;
 /// Each call with the kinds of its words: b u8, h u16, w u32, q u64, i i8, k 0 or 1, t `dead` or u64, d `dead` or u16,
 /// f `none` or 0 to 9, T a table, x bytes, n u16 names to the end, m u32 names to the end, p u32 numbers to the end,
 /// c cells of a slice, z bytes of 105.
-const CALLS: [(&str, &str); 58] = [
+const CALLS: [(&str, &str); 62] = [
     ("set_location", "ww"),
     ("set_location", "wwww"),
     ("emit", "b"),
@@ -91,9 +91,13 @@ const CALLS: [(&str, &str); 58] = [
     ("decode_assert_flags", "b"),
     ("step", "xq"),
     ("check", "xp"),
+    ("check strict", "xp"),
     ("check_slice", "ccxp"),
+    ("check_slice strict", "ccxp"),
     ("check_zeros", "zcc"),
+    ("check_zeros strict", "zcc"),
     ("check_here", ""),
+    ("check_here strict", ""),
     ("read_listing", "cx"),
     // The rest is read by more than the kinds of its words.
     ("tamper depth", "d"),

@@ -94,6 +94,7 @@ impl<'a> Maker<'a> {
             "is_dead",
             "build 0",
             "check_here",
+            "check_here strict",
         ] {
             self.script.say(line);
         }
