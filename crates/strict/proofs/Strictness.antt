@@ -190,7 +190,11 @@ module _ {last : ℕ} {s st d e w w′ : List ℕ} where
 
   plain-reasoned : (x : Explained) → OldExplains last s st d e w w′ x → Reasoned last s st (plainly x)
   plain-reasoned (E.Accepted a) X = tt
-  plain-reasoned (E.Refused q) X = (X .reasoned, λ o z. not-strict last s st d e w w′ o (subst (λ (p : Refusal). OldPromise last s st d e w w′ (C.Refused p)) z (X .promise)))
+  plain-reasoned (E.Refused q) X = (
+    X .reasoned,
+    λ o z. not-strict last s st d e w w′ o
+        (subst (λ (p : Refusal). OldPromise last s st d e w w′ (C.Refused p)) z (X .promise)),
+  )
   plain-reasoned (E.Unsolved why) X = X .reasoned
 
   net-explains : (x : Explained) → OldExplains last s st d e w w′ x → Explains Net last s st d e w w′ (plainly x)

@@ -46,7 +46,8 @@ same-length-2 c = search needs
 
 returns-2 : tie.Need-returns-2
 returns-2 c =
-    let after-check = c .before .before .before .before .before .before in
+    let after-work = c .before .before .before in
+    let after-check = after-work .before .before .before in
     let after-of-number = after-check .before .before .before in
     let else1 = after-of-number .before in
     record {

@@ -64,8 +64,8 @@ same-length-3 c = search needs
 returns-3 : tie.Need-returns-3
 returns-3 c =
     let after-tell-verdict = c .before .before in
-    let after-depths = after-tell-verdict .before .before .before .before .before .before in
-    let after-explain = after-depths .before in
+    let after-work = after-tell-verdict .before .before .before .before in
+    let after-explain = after-work .before .before .before in
     let after-of-number = after-explain .before .before .before in
     let else2 = after-of-number .before in
     let else1 = else2 .before in

@@ -19,8 +19,8 @@ enum-told-2 c = search needs
 
 strictly-requires : tie.Need-strictly-requires
 strictly-requires c κs =
-    let after-depths = c .before .before .before .before .before .before in
-    let after-explain = after-depths .before in
+    let after-work = c .before .before .before .before in
+    let after-explain = after-work .before .before .before in
     roomy _ (after-explain .explain .ensures)
 
 same-length : tie.Need-same-length
@@ -31,9 +31,10 @@ same-length-2 c = search needs
 
 returns : tie.Need-returns
 returns c =
-    let after-depths = c .before .before .before .before .before .before in
-    let after-explain = after-depths .before in
-    by-net _ _ _ (c .before .enum-told .given .1) (c .plain .ensures) (after-explain .explain .ensures)
+    let after-enum-told = c .before in
+    let after-work = after-enum-told .before .before .before in
+    let after-explain = after-work .before .before .before in
+    by-net _ _ _ (after-enum-told .enum-told .given .1) (c .plain .ensures) (after-explain .explain .ensures)
 
 same-length-3 : tie.Need-same-length-3
 same-length-3 c = search needs
@@ -45,7 +46,8 @@ returns-2 : tie.Need-returns-2
 returns-2 c =
     let after-strictly = c .before .before in
     let after-enum-told2 = after-strictly .before .before in
-    let after-explain = after-enum-told2 .before .before .before .before .before .before in
+    let after-work = after-enum-told2 .before .before .before in
+    let after-explain = after-work .before .before .before in
     by-strict _ _ _ _ (after-enum-told2 .enum-told2 .given .1) (after-explain .explain .ensures)
     (after-strictly .strictly .ensures)
 

@@ -31,7 +31,8 @@ slice-relend-prefix-fill c = search needs
 
 slice-aggregate-fill : tie.Need-slice-aggregate-fill
 slice-aggregate-fill c =
-    let start = c .before .before .before .before .before .before in
+    let after-need = c .before in
+    let start = after-need .before .before .before .before .before in
     sym (length-take-le _ _ (omega (arith, start .pre .0)))
 
 fill-requires : tie.Need-fill-requires
