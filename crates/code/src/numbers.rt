@@ -50,16 +50,12 @@ fn names(code: &[u8], at: usize, shape: Shape) -> u8
     0
 }
 
-// Its size, whether or not the code has as much. Without names, which is the common case, it is a constant of the shape.
+// Its size, whether or not the code has as much.
 pub fn size(code: &[u8], at: usize, shape: Shape) -> usize
     requires { ⌜ at < length (now code) ⌝ }
     ensures { λ r. ⌜ r ≡ sizeByNames shape (drop at (now (code .entry))) ⌝ }
 {
-    let n = names(code, at, shape);
-    if n == 0 {
-        return shapes::instruction_size(shape, 0);
-    }
-    shapes::instruction_size(shape, n)
+    shapes::instruction_size(shape, names(code, at, shape))
 }
 
 // The last number of its operand, where an effect goes by it.

@@ -36,7 +36,7 @@ shape-is k s e = go (known k) refl e
     go false q e = clash cc
 
 -- numbers of shapes are below 12
-number-small : (s : Shape) → shapeNumber s < 12
+pub number-small : (s : Shape) → shapeNumber s < 12
 number-small S.None = omega arith
 number-small S.U8 = omega arith
 number-small S.I8 = omega arith

@@ -1,33 +1,29 @@
--- Rows in words: one test that antt computes over a row turns it into the rule at each opcode.
+-- Rows in words: one test that antt computes over all bytes turns a row into the rule at each opcode.
 -- Assumes nothing.
-use mathlib.Core.Path.{_≡_, sym, ap, _∙_}
+use mathlib.Core.Path.{_≡_, ap, _∙_}
 use mathlib.Core.Bool.{Bool}
 use mathlib.Core.List.{List}
-use Prim.Native.Nat.{ℕ, _*_, _/_, _%_, _^_, _≤_}
-use native.Mathlib.Decide.{decLt}
-use native.Mathlib.Nat.{zero-div}
+use Prim.Native.Nat.{ℕ, _/_, _%_, _<_}
 use native.Mathlib.Omega.{arith}
 use lib.Dec.{T, eqb, eqb→eq}
-use lib.ListN.{length, getD, List·getD-eq-default}
+use lib.ListN.{getD}
 use Rattle.base.proofs.Keys.{everyFrom, in-range}
 use Rattle.op.specs.Inner.{numberIn}
 
--- the number of k in a row of words
-abbrev pub inRow : List ℕ → ℕ → ℕ
-inRow words k = numberIn (getD words (k / 8) 0) (k % 8)
+-- the number of a byte by a row and the word behind it
+abbrev pub inRow : List ℕ → ℕ → ℕ → ℕ
+inRow words rest k = numberIn (getD words (k / 8) rest) (k % 8)
 
--- the row's numbers are those that f gives
-abbrev pub gives : List ℕ → (ℕ → ℕ) → ℕ → Bool
-gives words f k = eqb (inRow words k) (f k)
+-- whether that is the number which f gives
+abbrev pub gives : List ℕ → ℕ → (ℕ → ℕ) → ℕ → Bool
+gives words rest f k = eqb (inRow words rest k) (f k)
 
-nothing-in : (place : ℕ) → numberIn 0 place ≡ 0
-nothing-in place = ap (λ (n : ℕ). n % 256) (zero-div (2 ^ (8 * place)))
+in-words : (words : List ℕ) (rest : ℕ) (f : ℕ → ℕ) → T (everyFrom (gives words rest f) 0 256) → (k : ℕ) → k < 256
+    → inRow words rest k ≡ f k
+in-words words rest f t k l =
+    eqb→eq (inRow words rest k) (f k) (in-range (gives words rest f) 0 256 k (omega arith) (omega arith) t)
 
--- where f gives 0 past the row, they are at every number
-pub in-words : (words : List ℕ) (f : ℕ → ℕ) → T (everyFrom (gives words f) 0 (8 * length words)) → (k : ℕ)
-    → (8 * length words ≤ k → f k ≡ 0) → inRow words k ≡ f k
-in-words words f t k past = elim (decLt k (8 * length words)) [
-  | yes l ↦ eqb→eq (inRow words k) (f k) (in-range (gives words f) 0 (8 * length words) k (omega arith) (omega arith) t)
-  | no l ↦ (let none = List·getD-eq-default words 0 {n = k / 8} (omega arith) in
-      ap (λ (w : ℕ). numberIn w (k % 8)) none ∙ nothing-in (k % 8) ∙ sym (past (omega arith)))
-]
+-- so it is of what the code reads: a word, and a number in it
+pub read-in : (words : List ℕ) (rest : ℕ) (f : ℕ → ℕ) → T (everyFrom (gives words rest f) 0 256)
+    → (k word r : ℕ) → k < 256 → word ≡ getD words (k / 8) rest → r ≡ numberIn word (k % 8) → r ≡ f k
+read-in words rest f t k word r l w n = n ∙ ap (λ (x : ℕ). numberIn x (k % 8)) w ∙ in-words words rest f t k l

@@ -1,9 +1,9 @@
 pub mod Signs
+pub mod InWords
 pub mod Listed
 pub mod Rules
 pub mod Flagged
 pub mod Effected
 pub mod Named
-pub mod InWords
 pub mod Needed
 pub mod Shaping

@@ -1,27 +1,20 @@
--- Laws of the needs: the row has each opcode's, and no need is over 3.
+-- No need is over 3.
 -- Assumes nothing.
 use mathlib.Core.Path.{_≡_, ap}
-use Prim.Native.Nat.{ℕ, _/_, _%_, _≤_, _<_}
+use Prim.Native.Nat.{ℕ, _≤_, _<_}
 use native.Mathlib.Decide.{decLt}
 use native.Mathlib.Omega.{arith}
 use lib.Dec.{leb, leb→le}
-use lib.ListN.{length, getD, List·getD-eq-default}
+use lib.ListN.{length, List·getD-eq-default}
 use Rattle.base.proofs.Keys.{in-range}
-use Rattle.op.specs.Inner.{numberIn, needWords}
 use Rattle.op.specs.Names.{nameIn, nameOf}
 use Rattle.op.specs.Needs.{needs, needBy, needOf}
 use Rattle.op.specs.Opcodes.{Row, op, same, table, rowOf}
 use Rattle.op.specs.declared.Shape.the-variants.{None}
-use Rattle.op.proofs.Listed.{rows}
-use Rattle.op.proofs.InWords.{in-words}
 
 past-need : (k : ℕ) → length table ≤ k → needOf k ≡ 0
 unfolding needOf nameOf rowOf
 past-need k h = ap (λ (r : Row). needBy needs (nameIn r)) (List·getD-eq-default table (op "" None same) {n = k} h)
-
-pub need-by : (k : ℕ) → numberIn (getD needWords (k / 8) 0) (k % 8) ≡ needOf k
-unfolding needOf nameOf rowOf table
-need-by k = in-words needWords needOf tt k (λ l. past-need k (omega (arith, rows)))
 
 row-small : (k : ℕ) → k < length table → needOf k ≤ 3
 unfolding needOf nameOf rowOf table

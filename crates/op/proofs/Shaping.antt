@@ -1,12 +1,15 @@
--- A shape by its number.
+-- A shape by its number, and the size by it.
 -- Assumes nothing.
 use mathlib.Core.Path.{_≡_, refl, sym, ap, _∙_}
-use mathlib.Core.Bool.{Bool, true, false, cond}
+use mathlib.Core.Bool.{Bool, true, false, cond, _||_}
 use mathlib.Core.List.{List, [], _∷_}
-use Prim.Native.Nat.{ℕ, _≤_}
+use Prim.Native.Nat.{ℕ, _+_, _*_, _/_, _%_, _^_, _≤_}
+use native.Mathlib.Nat.{add-zero}
+use lib.Dec.{eqb}
 use lib.ListN.{getD, List·getD-eq-default}
+use borrow.Author.Tests.{ne-eqb}
 use Rattle.op.specs.Opcodes.{known, rowOf}
-use Rattle.op.specs.Shapes.{shapeNumber, shapeIn, shapeOf, shapeNo}
+use Rattle.op.specs.Shapes.{shapeNumber, shapeIn, shapeOf, shapeNo, sizeOf}
 use Rattle.op.specs.declared.Refusal.the-variants.{UnknownOpcode}
 use Rattle.op.specs.declared.Shape.{Shape}
 use Rattle.op.specs.declared.Shape.the-variants.{None, U8, I8, U16, Offset, U8U8, U16U8, U16U16, U16U8U8, CallKw, CallAttrKw, U16U16U8}
@@ -52,3 +55,36 @@ shape-arm k n m e is = ap shapeAt (sym is ∙ e) ∙ by-number k
 
 pub shape-none : (k n : ℕ) → n ≡ shapeNo k → 12 ≤ n → Refused UnknownOpcode ≡ shapeOf k
 shape-none k n e h = sym (List·getD-eq-default shapes (Refused UnknownOpcode) {n = n} h) ∙ ap shapeAt e ∙ by-number k
+
+-- the size by a shape's number, without keyword names: half a byte of the row
+abbrev pub leastSize : ℕ → ℕ
+leastSize n = 0x6535_5433_3221 / 2 ^ (4 * n) % 16
+
+-- with them, which two shapes have
+abbrev sizeBy : ℕ → ℕ → ℕ
+sizeBy n names = leastSize n + cond (eqb n 9 || eqb n 10) (2 * names) 0
+
+size-by : (s : Shape) (names : ℕ) → sizeBy (shapeNumber s) names ≡ sizeOf s names
+unfolding sizeOf
+size-by None names = refl
+size-by U8 names = refl
+size-by I8 names = refl
+size-by U16 names = refl
+size-by Offset names = refl
+size-by U8U8 names = refl
+size-by U16U8 names = refl
+size-by U16U16 names = refl
+size-by U16U8U8 names = refl
+size-by CallKw names = refl
+size-by CallAttrKw names = refl
+size-by U16U16U8 names = refl
+
+-- of the number n, answered for the shape s: in an arm of number m
+pub size-arm : (s : Shape) (n m names : ℕ) → n ≡ shapeNumber s → n ≡ m → sizeBy m names ≡ sizeOf s names
+size-arm s n m names e is = ap (λ (x : ℕ). sizeBy x names) (sym is ∙ e) ∙ size-by s names
+
+-- in no arm of the two
+pub size-plain : (s : Shape) (n names : ℕ) → n ≡ shapeNumber s → (n ≡ 9 → ⊥) → (n ≡ 10 → ⊥) → leastSize n ≡ sizeOf s names
+size-plain s n names e kw attr =
+    let none : leastSize n ≡ sizeBy n names = rw (ne-eqb n 9 kw, ne-eqb n 10 attr) (sym (add-zero (leastSize n))) in
+    none ∙ size-arm s n n names e refl

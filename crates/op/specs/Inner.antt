@@ -41,11 +41,40 @@ ruleAt e = getD rules e match-keys
 unfoldable pub ruleNo : ℕ → ℕ
 ruleNo k = ruleNumber (ruleIn (rowOf k))
 
--- the number at a place of a word of eight numbers, the first in the lowest byte
+-- Rows of small numbers, one for each opcode, in words of eight, the first in the lowest byte. Behind a row each word is
+-- the last one given with it, so that every byte has a number.
+
+-- the number at a place of a word
 abbrev pub numberIn : ℕ → ℕ → ℕ
 numberIn word place = word / 2 ^ (8 * place) % 256
 
--- the needs of all opcodes in such words
+-- the shapes' numbers
+abbrev pub shapeWords : List ℕ
+shapeWords =
+    0x00_00_00_03_00_00_00_00 ∷ 0x01_03_01_00_00_00_00_02 ∷ 0x00_07_01_03_03_03_03_03 ∷
+    0x00_00_00_00_00_00_00_00 ∷ 0x00_00_00_00_00_00_00_00 ∷ 0x00_00_00_00_00_00_00_00 ∷
+    0x00_00_00_00_00_00_00_00 ∷ 0x03_03_00_00_00_00_00_00 ∷ 0x03_00_00_00_03_01_03_03 ∷
+    0x03_03_03_00_00_01_01_01 ∷ 0x06_01_0a_06_09_05_05_01 ∷ 0x06_04_00_04_04_04_04_04 ∷
+    0x01_00_00_00_00_00_00_08 ∷ 0x01_01_03_00_07_03_00_05 ∷ 0x01_01_03_03_01_00_00_00 ∷
+    0x01_01_06_0b_0b_0b_03_00 ∷ 0x0c_0c_0c_0c_0c_00_01_01 ∷ []
+
+abbrev pub noShapes : ℕ
+noShapes = 0x0c_0c_0c_0c_0c_0c_0c_0c
+
+-- the rules' numbers
+abbrev pub ruleWords : List ℕ
+ruleWords =
+    0x04_04_04_04_03_03_04_02 ∷ 0x02_04_04_04_04_04_04_04 ∷ 0x02_04_03_02_04_02_04_02 ∷
+    0x02_02_02_02_02_02_02_02 ∷ 0x02_02_02_02_02_02_02_02 ∷ 0x03_03_02_02_02_02_02_02 ∷
+    0x02_02_02_02_02_02_03_03 ∷ 0x07_07_02_02_02_02_02_02 ∷ 0x02_03_02_01_07_0e_07_08 ∷
+    0x01_03_03_00_02_01_02_02 ∷ 0x0d_0d_0b_06_0b_07_07_06 ∷ 0x07_04_03_02_02_02_02_03 ∷
+    0x09_03_02_03_03_03_02_0c ∷ 0x02_02_03_05_03_04_03_0a ∷ 0x10_0f_02_03_03_04_03_04 ∷
+    0x04_11_04_03_02_04_03_04 ∷ 0x03_03_03_03_03_01_03_05 ∷ []
+
+abbrev pub noRules : ℕ
+noRules = 0x03_03_03_03_03_03_03_03
+
+-- the needs
 abbrev pub needWords : List ℕ
 needWords =
     0x00_00_00_00_03_02_01_00 ∷ 0x00_00_00_00_00_00_00_00 ∷ 0x02_00_00_00_00_00_00_00 ∷
@@ -54,3 +83,6 @@ needWords =
     0x00_00_00_00_02_00_00_00 ∷ 0x00_00_00_00_00_00_00_00 ∷ 0x00_00_00_00_00_00_00_00 ∷
     0x00_00_00_00_00_00_00_00 ∷ 0x00_00_00_02_00_00_00_00 ∷ 0x00_00_00_00_00_00_00_00 ∷
     0x00_00_00_00_00_00_00_00 ∷ 0x00_00_00_00_00_00_00_00 ∷ []
+
+abbrev pub noNeeds : ℕ
+noNeeds = 0x00_00_00_00_00_00_00_00

@@ -1,9 +1,10 @@
 // What instructions do to the depth of the stack.
 ghost use mathlib.Core.Path.{_≡_};
+ghost use lib.ListN.{getD};
 ghost use Prim.Native.Nat.{_<_, _-_};
 ghost use Rattle.op.specs.Effects.{effectBy, effectOf, takenOf, netOf, Small, deadMaker, deadnessOf, lastOf};
 ghost use Rattle.op.specs.Effects.{formerOf, fixedOf, effectFrom};
-ghost use Rattle.op.specs.Inner.{ruleNo, ruleAt};
+ghost use Rattle.op.specs.Inner.{ruleNo, ruleAt, ruleWords, noRules};
 use crate::Deadness;
 use crate::Effect;
 use crate::Fixed;
@@ -11,6 +12,7 @@ use crate::NetEffect;
 use crate::Operand;
 use crate::Refusal;
 use crate::opcodes;
+use crate::rows;
 use crate::shapes;
 
 // The rules of effects, by numbers of our own.
@@ -50,144 +52,37 @@ const ASSERT_FAILED: u8 = 16;
 
 const MATCH_KEYS: u8 = 17;
 
-// The number of an opcode's rule. One arm for each opcode, as in `operand_shape`.
+// The row of the rules' numbers, eight opcodes a word.
+fn word(eight: u8) -> u64
+    ensures { λ r. ⌜ r ≡ getD ruleWords eight noRules ⌝ }
+{
+    match eight {
+        0 => 0x04_04_04_04_03_03_04_02, // Pop to LoadFalse
+        1 => 0x02_04_04_04_04_04_04_04, // LoadSmallInt to StoreLocal
+        2 => 0x02_04_03_02_04_02_04_02, // StoreLocalW to BinaryAdd
+        3 => 0x02_02_02_02_02_02_02_02, // BinarySub to BinaryOr
+        4 => 0x02_02_02_02_02_02_02_02, // BinaryXor to CompareLe
+        5 => 0x03_03_02_02_02_02_02_02, // CompareGt to UnaryNeg
+        6 => 0x02_02_02_02_02_02_03_03, // UnaryPos to InplaceMod
+        7 => 0x07_07_02_02_02_02_02_02, // InplacePow to BuildTuple
+        8 => 0x02_03_02_01_07_0e_07_08, // BuildDict to DictMerge
+        9 => 0x01_03_03_00_02_01_02_02, // ListAppend to StoreAttr
+        10 => 0x0d_0d_0b_06_0b_07_07_06, // CallFunction to CallAttrExtended
+        11 => 0x07_04_03_02_02_02_02_03, // Jump to MakeFunction
+        12 => 0x09_03_02_03_03_03_02_0c, // MakeClosure to UnpackSequence
+        13 => 0x02_02_03_05_03_04_03_0a, // UnpackEx to SetExtend
+        14 => 0x10_0f_02_03_03_04_03_04, // BeforeWith to AssertFailed
+        15 => 0x04_11_04_03_02_04_03_04, // BuildCell to MatchClass
+        16 => 0x03_03_03_03_03_01_03_05, // MatchAttr to RaiseFrom
+        _ => 0x03_03_03_03_03_03_03_03,
+    }
+}
+
+// The number of an opcode's rule; SAME where there is no such opcode.
 fn rule_number(opcode: u8) -> u8
     ensures { λ r. ⌜ r ≡ ruleNo opcode ⌝ }
 {
-    match opcode {
-        opcodes::POP => MINUS_1,
-        opcodes::DUP => PLUS_1,
-        opcodes::ROT2 => SAME,
-        opcodes::ROT3 => SAME,
-        opcodes::LOAD_CONST => PLUS_1,
-        opcodes::LOAD_NONE => PLUS_1,
-        opcodes::LOAD_TRUE => PLUS_1,
-        opcodes::LOAD_FALSE => PLUS_1,
-        opcodes::LOAD_SMALL_INT => PLUS_1,
-        opcodes::LOAD_LOCAL0 => PLUS_1,
-        opcodes::LOAD_LOCAL1 => PLUS_1,
-        opcodes::LOAD_LOCAL2 => PLUS_1,
-        opcodes::LOAD_LOCAL3 => PLUS_1,
-        opcodes::LOAD_LOCAL => PLUS_1,
-        opcodes::LOAD_LOCAL_W => PLUS_1,
-        opcodes::STORE_LOCAL => MINUS_1,
-        opcodes::STORE_LOCAL_W => MINUS_1,
-        opcodes::LOAD_GLOBAL => PLUS_1,
-        opcodes::STORE_GLOBAL => MINUS_1,
-        opcodes::LOAD_CELL => PLUS_1,
-        opcodes::STORE_CELL => MINUS_1,
-        opcodes::DELETE_LOCAL => SAME,
-        opcodes::LOAD_GLOBAL_CALLABLE => PLUS_1,
-        opcodes::BINARY_ADD => MINUS_1,
-        opcodes::BINARY_SUB => MINUS_1,
-        opcodes::BINARY_MUL => MINUS_1,
-        opcodes::BINARY_DIV => MINUS_1,
-        opcodes::BINARY_FLOOR_DIV => MINUS_1,
-        opcodes::BINARY_MOD => MINUS_1,
-        opcodes::BINARY_POW => MINUS_1,
-        opcodes::BINARY_AND => MINUS_1,
-        opcodes::BINARY_OR => MINUS_1,
-        opcodes::BINARY_XOR => MINUS_1,
-        opcodes::BINARY_LSHIFT => MINUS_1,
-        opcodes::BINARY_RSHIFT => MINUS_1,
-        opcodes::BINARY_MAT_MUL => MINUS_1,
-        opcodes::COMPARE_EQ => MINUS_1,
-        opcodes::COMPARE_NE => MINUS_1,
-        opcodes::COMPARE_LT => MINUS_1,
-        opcodes::COMPARE_LE => MINUS_1,
-        opcodes::COMPARE_GT => MINUS_1,
-        opcodes::COMPARE_GE => MINUS_1,
-        opcodes::COMPARE_IS => MINUS_1,
-        opcodes::COMPARE_IS_NOT => MINUS_1,
-        opcodes::COMPARE_IN => MINUS_1,
-        opcodes::COMPARE_NOT_IN => MINUS_1,
-        opcodes::UNARY_NOT => SAME,
-        opcodes::UNARY_NEG => SAME,
-        opcodes::UNARY_POS => SAME,
-        opcodes::UNARY_INVERT => SAME,
-        opcodes::INPLACE_ADD => MINUS_1,
-        opcodes::INPLACE_SUB => MINUS_1,
-        opcodes::INPLACE_MUL => MINUS_1,
-        opcodes::INPLACE_DIV => MINUS_1,
-        opcodes::INPLACE_FLOOR_DIV => MINUS_1,
-        opcodes::INPLACE_MOD => MINUS_1,
-        opcodes::INPLACE_POW => MINUS_1,
-        opcodes::INPLACE_AND => MINUS_1,
-        opcodes::INPLACE_OR => MINUS_1,
-        opcodes::INPLACE_XOR => MINUS_1,
-        opcodes::INPLACE_LSHIFT => MINUS_1,
-        opcodes::INPLACE_RSHIFT => MINUS_1,
-        opcodes::BUILD_LIST => ONE_MINUS_N,
-        opcodes::BUILD_TUPLE => ONE_MINUS_N,
-        opcodes::BUILD_DICT => ONE_MINUS_2N,
-        opcodes::BUILD_SET => ONE_MINUS_N,
-        opcodes::FORMAT_VALUE => FORMAT,
-        opcodes::BUILD_FSTRING => ONE_MINUS_N,
-        opcodes::BUILD_SLICE => MINUS_2,
-        opcodes::LIST_EXTEND => MINUS_1,
-        opcodes::LIST_TO_TUPLE => SAME,
-        opcodes::DICT_MERGE => MINUS_1,
-        opcodes::LIST_APPEND => MINUS_1,
-        opcodes::SET_ADD => MINUS_1,
-        opcodes::DICT_SET_ITEM => MINUS_2,
-        opcodes::BINARY_SUBSCR => MINUS_1,
-        opcodes::STORE_SUBSCR => MINUS_3,
-        opcodes::LOAD_ATTR => SAME,
-        opcodes::LOAD_ATTR_IMPORT => SAME,
-        opcodes::STORE_ATTR => MINUS_2,
-        opcodes::CALL_FUNCTION => MINUS_N,
-        opcodes::CALL_BUILTIN_FUNCTION => ONE_MINUS_N,
-        opcodes::CALL_BUILTIN_TYPE => ONE_MINUS_N,
-        opcodes::CALL_FUNCTION_KW => MINUS_BOTH,
-        opcodes::CALL_ATTR => MINUS_N,
-        opcodes::CALL_ATTR_KW => MINUS_BOTH,
-        opcodes::CALL_FUNCTION_EXTENDED => EXTENDED,
-        opcodes::CALL_ATTR_EXTENDED => EXTENDED,
-        opcodes::JUMP => SAME,
-        opcodes::JUMP_IF_TRUE => MINUS_1,
-        opcodes::JUMP_IF_FALSE => MINUS_1,
-        opcodes::JUMP_IF_TRUE_OR_POP => MINUS_1,
-        opcodes::JUMP_IF_FALSE_OR_POP => MINUS_1,
-        opcodes::GET_ITER => SAME,
-        opcodes::FOR_ITER => PLUS_1,
-        opcodes::MAKE_FUNCTION => ONE_MINUS_N,
-        opcodes::MAKE_CLOSURE => ONE_MINUS_BOTH,
-        opcodes::RAISE => MINUS_1,
-        opcodes::RERAISE => SAME,
-        opcodes::CLEAR_EXCEPTION => SAME,
-        opcodes::CHECK_EXC_MATCH => SAME,
-        opcodes::RETURN_VALUE => MINUS_1,
-        opcodes::AWAIT => SAME,
-        opcodes::UNPACK_SEQUENCE => N_MINUS_ONE,
-        opcodes::UNPACK_EX => BOTH,
-        opcodes::NOP => SAME,
-        opcodes::LOAD_MODULE => PLUS_1,
-        opcodes::LOAD_SUBMODULE => SAME,
-        opcodes::DUP2 => PLUS_2,
-        opcodes::DELETE_GLOBAL => SAME,
-        opcodes::DICT_UPDATE => MINUS_1,
-        opcodes::SET_EXTEND => MINUS_1,
-        opcodes::BEFORE_WITH => PLUS_1,
-        opcodes::WITH_EXIT => SAME,
-        opcodes::WITH_EXCEPT_START => PLUS_1,
-        opcodes::LIFT_TO_TOP => SAME,
-        opcodes::RAISE_UNBOUND_LOCAL => SAME,
-        opcodes::METHOD_DICT_MERGE => MINUS_1,
-        opcodes::ASSERT => ASSERT,
-        opcodes::ASSERT_FAILED => ASSERT_FAILED,
-        opcodes::BUILD_CELL => PLUS_1,
-        opcodes::DELETE_CELL => SAME,
-        opcodes::LOAD_NAME => PLUS_1,
-        opcodes::STORE_NAME => MINUS_1,
-        opcodes::DELETE_NAME => SAME,
-        opcodes::MATCH_SHAPE => PLUS_1,
-        opcodes::MATCH_KEYS => MATCH_KEYS,
-        opcodes::MATCH_CLASS => PLUS_1,
-        opcodes::MATCH_ATTR => PLUS_2,
-        opcodes::SINK_TOP => SAME,
-        opcodes::RAISE_FROM => MINUS_2,
-        _ => SAME,
-    }
+    rows::number_in(word(opcode / 8), opcode % 8)
 }
 
 // A rule's effect, by the operand's former and last number.

@@ -2,12 +2,12 @@
 ghost use mathlib.Core.Path.{_≡_};
 ghost use lib.ListN.{getD};
 ghost use Rattle.op.specs.Needs.{needOf};
-ghost use Rattle.op.specs.Inner.{needWords};
+ghost use Rattle.op.specs.Inner.{needWords, noNeeds};
 use crate::rows;
 
 // The row of needs, eight opcodes a word.
 fn word(eight: u8) -> u64
-    ensures { λ r. ⌜ r ≡ getD needWords eight 0 ⌝ }
+    ensures { λ r. ⌜ r ≡ getD needWords eight noNeeds ⌝ }
 {
     match eight {
         0 => 0x00_00_00_00_03_02_01_00, // Pop to LoadFalse
@@ -27,7 +27,7 @@ fn word(eight: u8) -> u64
         14 => 0x00_00_00_00_00_00_00_00, // BeforeWith to AssertFailed
         15 => 0x00_00_00_00_00_00_00_00, // BuildCell to MatchClass
         16 => 0x00_00_00_00_00_00_00_00, // MatchAttr to RaiseFrom
-        _ => 0,
+        _ => 0x00_00_00_00_00_00_00_00,
     }
 }
 

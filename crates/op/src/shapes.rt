@@ -1,11 +1,13 @@
 // The shapes of operands and the sizes of instructions.
 ghost use mathlib.Core.Path.{_≡_};
+ghost use lib.ListN.{getD};
 ghost use Rattle.op.specs.Shapes.{shapeNumber, shapeOf, operandShape, shapeNo, sizeOf};
+ghost use Rattle.op.specs.Inner.{shapeWords, noShapes};
 use crate::Operand;
 use crate::Refusal;
 use crate::Shape;
 use crate::Shaped;
-use crate::opcodes;
+use crate::rows;
 
 // The shapes' numbers in op.rs.
 const NONE: u8 = 0;
@@ -35,145 +37,37 @@ const U16U16U8: u8 = 11;
 // Stands for a shape's number where there is no such opcode.
 pub const NO_SHAPE: u8 = 12;
 
-// The number of an opcode's shape, or NO_SHAPE. One arm for each opcode: neighbours joined by `|` would become a chain of
-// range tests.
+// The row of the shapes' numbers, eight opcodes a word.
+fn word(eight: u8) -> u64
+    ensures { λ r. ⌜ r ≡ getD shapeWords eight noShapes ⌝ }
+{
+    match eight {
+        0 => 0x00_00_00_03_00_00_00_00, // Pop to LoadFalse
+        1 => 0x01_03_01_00_00_00_00_02, // LoadSmallInt to StoreLocal
+        2 => 0x00_07_01_03_03_03_03_03, // StoreLocalW to BinaryAdd
+        3 => 0x00_00_00_00_00_00_00_00, // BinarySub to BinaryOr
+        4 => 0x00_00_00_00_00_00_00_00, // BinaryXor to CompareLe
+        5 => 0x00_00_00_00_00_00_00_00, // CompareGt to UnaryNeg
+        6 => 0x00_00_00_00_00_00_00_00, // UnaryPos to InplaceMod
+        7 => 0x03_03_00_00_00_00_00_00, // InplacePow to BuildTuple
+        8 => 0x03_00_00_00_03_01_03_03, // BuildDict to DictMerge
+        9 => 0x03_03_03_00_00_01_01_01, // ListAppend to StoreAttr
+        10 => 0x06_01_0a_06_09_05_05_01, // CallFunction to CallAttrExtended
+        11 => 0x06_04_00_04_04_04_04_04, // Jump to MakeFunction
+        12 => 0x01_00_00_00_00_00_00_08, // MakeClosure to UnpackSequence
+        13 => 0x01_01_03_00_07_03_00_05, // UnpackEx to SetExtend
+        14 => 0x01_01_03_03_01_00_00_00, // BeforeWith to AssertFailed
+        15 => 0x01_01_06_0b_0b_0b_03_00, // BuildCell to MatchClass
+        16 => 0x0c_0c_0c_0c_0c_00_01_01, // MatchAttr to RaiseFrom
+        _ => 0x0c_0c_0c_0c_0c_0c_0c_0c,
+    }
+}
+
+// The number of an opcode's shape, or NO_SHAPE.
 pub fn shape_number(opcode: u8) -> u8
     ensures { λ r. ⌜ r ≡ shapeNo opcode ⌝ }
 {
-    match opcode {
-        opcodes::POP => NONE,
-        opcodes::DUP => NONE,
-        opcodes::ROT2 => NONE,
-        opcodes::ROT3 => NONE,
-        opcodes::LOAD_CONST => U16,
-        opcodes::LOAD_NONE => NONE,
-        opcodes::LOAD_TRUE => NONE,
-        opcodes::LOAD_FALSE => NONE,
-        opcodes::LOAD_SMALL_INT => I8,
-        opcodes::LOAD_LOCAL0 => NONE,
-        opcodes::LOAD_LOCAL1 => NONE,
-        opcodes::LOAD_LOCAL2 => NONE,
-        opcodes::LOAD_LOCAL3 => NONE,
-        opcodes::LOAD_LOCAL => U8,
-        opcodes::LOAD_LOCAL_W => U16,
-        opcodes::STORE_LOCAL => U8,
-        opcodes::STORE_LOCAL_W => U16,
-        opcodes::LOAD_GLOBAL => U16,
-        opcodes::STORE_GLOBAL => U16,
-        opcodes::LOAD_CELL => U16,
-        opcodes::STORE_CELL => U16,
-        opcodes::DELETE_LOCAL => U8,
-        opcodes::LOAD_GLOBAL_CALLABLE => U16U16,
-        opcodes::BINARY_ADD => NONE,
-        opcodes::BINARY_SUB => NONE,
-        opcodes::BINARY_MUL => NONE,
-        opcodes::BINARY_DIV => NONE,
-        opcodes::BINARY_FLOOR_DIV => NONE,
-        opcodes::BINARY_MOD => NONE,
-        opcodes::BINARY_POW => NONE,
-        opcodes::BINARY_AND => NONE,
-        opcodes::BINARY_OR => NONE,
-        opcodes::BINARY_XOR => NONE,
-        opcodes::BINARY_LSHIFT => NONE,
-        opcodes::BINARY_RSHIFT => NONE,
-        opcodes::BINARY_MAT_MUL => NONE,
-        opcodes::COMPARE_EQ => NONE,
-        opcodes::COMPARE_NE => NONE,
-        opcodes::COMPARE_LT => NONE,
-        opcodes::COMPARE_LE => NONE,
-        opcodes::COMPARE_GT => NONE,
-        opcodes::COMPARE_GE => NONE,
-        opcodes::COMPARE_IS => NONE,
-        opcodes::COMPARE_IS_NOT => NONE,
-        opcodes::COMPARE_IN => NONE,
-        opcodes::COMPARE_NOT_IN => NONE,
-        opcodes::UNARY_NOT => NONE,
-        opcodes::UNARY_NEG => NONE,
-        opcodes::UNARY_POS => NONE,
-        opcodes::UNARY_INVERT => NONE,
-        opcodes::INPLACE_ADD => NONE,
-        opcodes::INPLACE_SUB => NONE,
-        opcodes::INPLACE_MUL => NONE,
-        opcodes::INPLACE_DIV => NONE,
-        opcodes::INPLACE_FLOOR_DIV => NONE,
-        opcodes::INPLACE_MOD => NONE,
-        opcodes::INPLACE_POW => NONE,
-        opcodes::INPLACE_AND => NONE,
-        opcodes::INPLACE_OR => NONE,
-        opcodes::INPLACE_XOR => NONE,
-        opcodes::INPLACE_LSHIFT => NONE,
-        opcodes::INPLACE_RSHIFT => NONE,
-        opcodes::BUILD_LIST => U16,
-        opcodes::BUILD_TUPLE => U16,
-        opcodes::BUILD_DICT => U16,
-        opcodes::BUILD_SET => U16,
-        opcodes::FORMAT_VALUE => U8,
-        opcodes::BUILD_FSTRING => U16,
-        opcodes::BUILD_SLICE => NONE,
-        opcodes::LIST_EXTEND => NONE,
-        opcodes::LIST_TO_TUPLE => NONE,
-        opcodes::DICT_MERGE => U16,
-        opcodes::LIST_APPEND => U8,
-        opcodes::SET_ADD => U8,
-        opcodes::DICT_SET_ITEM => U8,
-        opcodes::BINARY_SUBSCR => NONE,
-        opcodes::STORE_SUBSCR => NONE,
-        opcodes::LOAD_ATTR => U16,
-        opcodes::LOAD_ATTR_IMPORT => U16,
-        opcodes::STORE_ATTR => U16,
-        opcodes::CALL_FUNCTION => U8,
-        opcodes::CALL_BUILTIN_FUNCTION => U8U8,
-        opcodes::CALL_BUILTIN_TYPE => U8U8,
-        opcodes::CALL_FUNCTION_KW => CALL_KW,
-        opcodes::CALL_ATTR => U16U8,
-        opcodes::CALL_ATTR_KW => CALL_ATTR_KW,
-        opcodes::CALL_FUNCTION_EXTENDED => U8,
-        opcodes::CALL_ATTR_EXTENDED => U16U8,
-        opcodes::JUMP => OFFSET,
-        opcodes::JUMP_IF_TRUE => OFFSET,
-        opcodes::JUMP_IF_FALSE => OFFSET,
-        opcodes::JUMP_IF_TRUE_OR_POP => OFFSET,
-        opcodes::JUMP_IF_FALSE_OR_POP => OFFSET,
-        opcodes::GET_ITER => NONE,
-        opcodes::FOR_ITER => OFFSET,
-        opcodes::MAKE_FUNCTION => U16U8,
-        opcodes::MAKE_CLOSURE => U16U8U8,
-        opcodes::RAISE => NONE,
-        opcodes::RERAISE => NONE,
-        opcodes::CLEAR_EXCEPTION => NONE,
-        opcodes::CHECK_EXC_MATCH => NONE,
-        opcodes::RETURN_VALUE => NONE,
-        opcodes::AWAIT => NONE,
-        opcodes::UNPACK_SEQUENCE => U8,
-        opcodes::UNPACK_EX => U8U8,
-        opcodes::NOP => NONE,
-        opcodes::LOAD_MODULE => U16,
-        opcodes::LOAD_SUBMODULE => U16U16,
-        opcodes::DUP2 => NONE,
-        opcodes::DELETE_GLOBAL => U16,
-        opcodes::DICT_UPDATE => U8,
-        opcodes::SET_EXTEND => U8,
-        opcodes::BEFORE_WITH => NONE,
-        opcodes::WITH_EXIT => NONE,
-        opcodes::WITH_EXCEPT_START => NONE,
-        opcodes::LIFT_TO_TOP => U8,
-        opcodes::RAISE_UNBOUND_LOCAL => U16,
-        opcodes::METHOD_DICT_MERGE => U16,
-        opcodes::ASSERT => U8,
-        opcodes::ASSERT_FAILED => U8,
-        opcodes::BUILD_CELL => NONE,
-        opcodes::DELETE_CELL => U16,
-        opcodes::LOAD_NAME => U16U16U8,
-        opcodes::STORE_NAME => U16U16U8,
-        opcodes::DELETE_NAME => U16U16U8,
-        opcodes::MATCH_SHAPE => U16U8,
-        opcodes::MATCH_KEYS => U8,
-        opcodes::MATCH_CLASS => U8,
-        opcodes::MATCH_ATTR => U8,
-        opcodes::SINK_TOP => U8,
-        opcodes::RAISE_FROM => NONE,
-        _ => NO_SHAPE,
-    }
+    rows::number_in(word(opcode / 8), opcode % 8)
 }
 
 // An opcode's shape, or 1.
@@ -245,22 +139,20 @@ pub fn of_operand(operand: Operand) -> Shape
     }
 }
 
-// How many bytes an instruction of a shape has, with so many keyword names.
+// The sizes by the shapes' numbers, without keyword names: half a byte each, the first in the lowest.
+const SIZES: u64 = 0x6535_5433_3221;
+
+// How many bytes an instruction of a shape has, with so many keyword names. An arm for each shape would become a jump
+// by a table, which no processor foresees in code whose shapes follow no pattern.
 pub fn instruction_size(shape: Shape, names: u8) -> usize
     ensures { λ r. ⌜ r ≡ sizeOf shape names ⌝ }
 {
-    match shape {
-        Shape::None => 1,
-        Shape::U8 => 2,
-        Shape::I8 => 2,
-        Shape::U16 => 3,
-        Shape::Offset => 3,
-        Shape::U8U8 => 3,
-        Shape::U16U8 => 4,
-        Shape::U16U16 => 5,
-        Shape::U16U8U8 => 5,
-        Shape::CallKw => 3 + 2 * names as usize,
-        Shape::CallAttrKw => 5 + 2 * names as usize,
-        Shape::U16U16U8 => 6,
+    let n = number(shape);
+    let least = (SIZES >> (4 * n)) % 16;
+    let size = least as usize;
+    match n {
+        CALL_KW => size + 2 * names as usize,
+        CALL_ATTR_KW => size + 2 * names as usize,
+        _ => size,
     }
 }

@@ -1,6 +1,6 @@
 -- `code::numbers::size` meets its contract: the shape's size with so many names.
 -- Assumes nothing.
-use mathlib.Core.Path.{sym, ap, _∙_}
+use mathlib.Core.Path.{ap, _∙_}
 use borrow.Author.Needs.{needs}
 use Rattle.op.specs.Shapes.{sizeOf}
 use Rattle.code.proofs.numbers.size.Statement.{statement}
@@ -14,20 +14,9 @@ instruction-size-requires c κs = search needs
 
 returns : tie.Need-returns
 returns c =
-    let after-names = c .before .before in
+    let after-names = c .before in
     let start = after-names .before .before in
-    c .instruction-size .ensures
-    ∙ ap (sizeOf (start .args .shape)) (sym (c .before .if1 .taken) ∙ after-names .names .ensures)
-
-instruction-size-requires-2 : tie.Need-instruction-size-requires-2
-instruction-size-requires-2 c κs = search needs
-
-returns-2 : tie.Need-returns-2
-returns-2 c =
-    let after-names = c .before .before in
-    let start = after-names .before .before in
-    c .instruction-size2 .ensures ∙ ap (sizeOf (start .args .shape)) (after-names .names .ensures)
+    c .instruction-size .ensures ∙ ap (sizeOf (start .args .shape)) (after-names .names .ensures)
 
 pub size-spec : {M : Type 1} → statement M
-size-spec =
-    tie.close (tie.spec names-requires instruction-size-requires returns instruction-size-requires-2 returns-2)
+size-spec = tie.close (tie.spec names-requires instruction-size-requires returns)

@@ -1,11 +1,11 @@
--- `op::needs::word` meets its contract: past the row there is no word.
+-- `op::needs::word` meets its contract: behind the row stands the word for no opcode.
 -- Assumes nothing.
 use mathlib.Core.Path.{sym}
 use native.Mathlib.Omega.{arith}
 use lib.ListN.{List·getD-eq-default}
 use borrow.Author.Needs.{needs}
 use Rattle.base.proofs.Keys.{past}
-use Rattle.op.specs.Inner.{needWords}
+use Rattle.op.specs.Inner.{needWords, noNeeds}
 use Rattle.op.proofs.needs.word.Statement.{statement}
 use Rattle.op.proofs.needs.word.Tie as tie
 
@@ -61,7 +61,7 @@ returns-17 : tie.Need-returns-17
 returns-17 c = search needs
 
 returns-18 : tie.Need-returns-18
-returns-18 c = sym (List·getD-eq-default needWords 0 (past 0 17 _ (c .match .rest) (omega arith)))
+returns-18 c = sym (List·getD-eq-default needWords noNeeds (past 0 17 _ (c .match .rest) (omega arith)))
 
 pub word-spec : {M : Type 1} → statement M
 word-spec =
