@@ -40,8 +40,8 @@ enum {
     TF_UNKNOWN_OPCODE = 1,      /* the opcode is above 130 */
     TF_WRONG_SHAPE = 2,         /* the operand is not of the opcode's shape, or an argument is too large */
     TF_NOT_A_JUMP = 3,          /* the opcode is no jump */
-    TF_DEPTH_BELOW_ZERO = 4,    /* the depth would fall below 0 */
-    TF_DEPTH_TOO_LARGE = 5,     /* the depth would rise above 65,535, or a taken depth fall below 0 */
+    TF_DEPTH_BELOW_ZERO = 4,    /* the depth would fall below 0, falling through or where a jump is taken */
+    TF_DEPTH_TOO_LARGE = 5,     /* the depth would rise above 65,535 */
     TF_JUMP_TOO_FAR = 6,        /* the displacement would be outside -32,768 to 32,767 */
     TF_TOO_MANY_NAMES = 7,      /* over 255 keyword names */
     TF_NAME_TOO_LARGE = 8,      /* the name is over 65,535 */
@@ -152,7 +152,7 @@ tf_answer tf_makes_dead(uint8_t opcode);
 tf_answer tf_depth_after(uint16_t depth, uint8_t opcode, uint8_t shape, uint16_t a, uint16_t b, uint8_t c, uint8_t names);
 
 /* The depth that a taken jump arrives with, where it stood at depth.
- * Refuses: 1, 3; then 5 below 0. */
+ * Refuses: 1, 3; then 4 below 0. */
 tf_answer tf_depth_taken(uint16_t depth, uint8_t opcode);
 
 /* The instruction's size in bytes; names is its number of keyword names, not looked at where the
@@ -635,7 +635,7 @@ static inline tf_answer tf_emit_call_attr_kw(tf_builder *b, uint16_t attr_name_i
 
 /* Emits a forward jump, whose target is not known yet, and writes the label to patch later. Behind Jump the code is
  * dead. In dead code the label is TF_DEAD.
- * Refuses: 19, 1; live 3, 5 of the depth where it is taken, 4, 5, 18. */
+ * Refuses: 19, 1; live 3, 4 of the depth where it is taken, 4, 5, 18. */
 static inline tf_answer tf_emit_jump(tf_builder *b, uint8_t op, tf_label *label)
 {
     tf_answer a = tfb_emit_jump(op, tf_cells(b), TF_STATE_CELLS, b->code, b->code_length, b->locations,
@@ -653,7 +653,7 @@ static inline tf_answer tf_patch_jump(tf_builder *b, tf_label label)
 }
 
 /* Emits a jump back to a known target.
- * Refuses: 19, 1; live 3, 5 of the depth where it is taken, 12 or 13, 11, 6, 4, 5, 18. */
+ * Refuses: 19, 1; live 3, 4 of the depth where it is taken, 12 or 13, 11, 6, 4, 5, 18. */
 static inline tf_answer tf_emit_jump_to(tf_builder *b, uint8_t op, tf_target target)
 {
     return tfb_emit_jump_to(op, target.row, tf_cells(b), TF_STATE_CELLS, b->code, b->code_length, b->locations,

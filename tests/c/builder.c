@@ -365,7 +365,7 @@ static void examples(void)
     accepted("E: 255 names make 513 bytes", tf_emit_call_function_kw(&b, 0, names, 255));
     expect("E", 513, 0);
     far_from("F", 0);
-    refused("F: ForIter at depth 0", tf_emit_jump(&b, TF_OP_FOR_ITER, &label), TF_DEPTH_TOO_LARGE, 0);
+    refused("F: ForIter at depth 0", tf_emit_jump(&b, TF_OP_FOR_ITER, &label), TF_DEPTH_BELOW_ZERO, 0);
     far_from("G", 0);
     accepted("G: at 1", tf_new(&b, 1));
     accepted("G: JumpIfTrueOrPop", tf_emit_jump(&b, TF_OP_JUMP_IF_TRUE_OR_POP, &label));

@@ -69,7 +69,7 @@ static void depths(void)
 {
     value("ForIter at depth 1 falls through to 2", tf_depth_after(1, TF_OP_FOR_ITER, TF_SHAPE_OFFSET, 0, 0, 0, 0), 2);
     value("and is taken to 0", tf_depth_taken(1, TF_OP_FOR_ITER), 0);
-    refusal("ForIter taken at depth 0", tf_depth_taken(0, TF_OP_FOR_ITER), TF_DEPTH_TOO_LARGE);
+    refusal("ForIter taken at depth 0", tf_depth_taken(0, TF_OP_FOR_ITER), TF_DEPTH_BELOW_ZERO);
     value("Dup at 65534", tf_depth_after(65534, TF_OP_DUP, TF_SHAPE_NONE, 0, 0, 0, 0), 65535);
     refusal("Dup at 65535", tf_depth_after(65535, TF_OP_DUP, TF_SHAPE_NONE, 0, 0, 0, 0), TF_DEPTH_TOO_LARGE);
     refusal("Pop at 0", tf_depth_after(0, TF_OP_POP, TF_SHAPE_NONE, 0, 0, 0, 0), TF_DEPTH_BELOW_ZERO);

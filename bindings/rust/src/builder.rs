@@ -226,7 +226,7 @@ impl CodeBuilder {
     /// Emits a forward jump, whose label is to be patched where it leads.
     ///
     /// # Errors
-    /// Live: 3, 5, 4, 18.
+    /// Live: 3, 4 of the depth where it is taken, 4, 5, 18.
     pub fn emit_jump(&mut self, op: Opcode) -> Result<JumpLabel, Refusal> {
         self.grown(|held| held.emit_jump(op as u8)).map(JumpLabel)
     }
@@ -255,7 +255,7 @@ impl CodeBuilder {
     /// Emits a jump back to a target.
     ///
     /// # Errors
-    /// Live: 3, 5, 12 for a target of dead code, 13, 11, 6, 4, 18.
+    /// Live: 3, 4 of the depth where it is taken, 12 for a target of dead code, 13, 11, 6, 4, 5, 18.
     pub fn emit_jump_to(&mut self, op: Opcode, target: JumpTarget) -> Result<(), Refusal> {
         self.grown(|held| held.emit_jump_to(op as u8, target.0))
     }
@@ -606,5 +606,19 @@ mod tests {
         assert_eq!(builder.emit_jump(Opcode::Nop), Err(Refusal::NotAJump));
         assert_eq!(builder.held, before);
         Ok(())
+    }
+
+    #[test]
+    fn a_jump_that_finds_no_value_says_so() {
+        let mut builder = live();
+        let top = builder.current_jump_target();
+        for op in [Opcode::JumpIfTrue, Opcode::JumpIfFalse, Opcode::ForIter] {
+            assert_eq!(builder.emit_jump(op), Err(Refusal::DepthBelowZero));
+            assert_eq!(builder.emit_jump_to(op, top), Err(Refusal::DepthBelowZero));
+        }
+        assert_eq!(
+            Refusal::DepthBelowZero.to_string(),
+            "refused 4: the instruction takes more from the stack than is there"
+        );
     }
 }

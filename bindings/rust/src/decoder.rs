@@ -76,7 +76,19 @@ impl<'a> Instruction<'a> {
     /// The depth that its jump arrives with where it stood at `depth`.
     ///
     /// # Errors
-    /// 3 where it is no jump; 5 below 0.
+    /// 3 where it is no jump; 4 below 0.
+    ///
+    /// ```
+    /// use tokenfinch::{Opcode, Refusal, instructions};
+    ///
+    /// let code = [Opcode::JumpIfTrue as u8, 0, 0];
+    /// for jump in instructions(&code) {
+    ///     let jump = jump?;
+    ///     assert_eq!(jump.depth_taken(1), Ok(0));
+    ///     assert_eq!(jump.depth_taken(0), Err(Refusal::DepthBelowZero));
+    /// }
+    /// # Ok::<(), Refusal>(())
+    /// ```
     pub fn depth_taken(&self, depth: u16) -> Result<u16, Refusal> {
         crate::rules::depth_taken(depth, self.opcode as u8)
     }

@@ -93,10 +93,13 @@ impl fmt::Display for Reason {
                 f,
                 "the instruction at offset {at} takes the depth {depth} below 0, or above 65,535"
             ),
-            Self::TakenOutOfRange { at, depth } => write!(
-                f,
-                "the jump at offset {at}, where it is taken, takes the depth {depth} below 0, or above 65,535"
-            ),
+            // No taken jump takes more than one value, and none adds any.
+            Self::TakenOutOfRange { at, .. } => {
+                write!(
+                    f,
+                    "the jump at offset {at} needs a value on the stack; it has none there"
+                )
+            }
             Self::NoPlace { at, .. } => {
                 write!(f, "the jump at offset {at} leads to where no instruction starts")
             }
@@ -161,7 +164,7 @@ mod tests {
             ),
             (
                 [3, 4, 0, 0],
-                ": the jump at offset 4, where it is taken, takes the depth 0 below 0, or above 65,535",
+                ": the jump at offset 4 needs a value on the stack; it has none there",
             ),
             (
                 [4, 5, 7, 0],

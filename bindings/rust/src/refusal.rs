@@ -14,9 +14,9 @@ pub enum Refusal {
     WrongShape,
     /// 3: the opcode is no jump.
     NotAJump,
-    /// 4: the depth would fall below 0.
+    /// 4: the depth would fall below 0, falling through or where a jump is taken.
     DepthBelowZero,
-    /// 5: the depth would rise above 65,535, or a taken depth fall below 0.
+    /// 5: the depth would rise above 65,535.
     DepthTooLarge,
     /// 6: the displacement is not within -32,768 to 32,767.
     JumpTooFar,
@@ -230,7 +230,7 @@ impl Refusal {
             Self::WrongShape => "the opcode takes an operand of another shape",
             Self::NotAJump => "the opcode is no jump",
             Self::DepthBelowZero => "the instruction takes more from the stack than is there",
-            Self::DepthTooLarge => "the stack would hold over 65,535 values, or a taken jump take more than is there",
+            Self::DepthTooLarge => "the stack would hold over 65,535 values",
             Self::JumpTooFar => "the jump is too far: it reaches 32,767 bytes ahead and 32,768 back",
             Self::TooManyKeywords => "the call has over 255 keyword names",
             Self::NameTooLarge => "the name's number is over 65,535",

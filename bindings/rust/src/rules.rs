@@ -49,7 +49,7 @@ pub fn depth_after(depth: u16, opcode: u8, shape: u8, a: u16, b: u16, c: u8, nam
 /// The depth that a taken jump arrives with, where it stood at `depth`.
 ///
 /// # Errors
-/// 1, 3; then 5 below 0.
+/// 1, 3; then 4 below 0.
 pub fn depth_taken(depth: u16, opcode: u8) -> Result<u16, Refusal> {
     sys::depth_taken(depth, opcode).value().map(|depth| depth as u16)
 }

@@ -31,7 +31,7 @@ impl<N: Fn(usize) -> String> Refused<'_, N> {
         match reason {
             Reason::TwoDepths { place, depths } => Some(self.meeting(place, depths)),
             Reason::DepthOutOfRange { at, depth } => behind(&self.instruction(at)?, depth),
-            Reason::TakenOutOfRange { at, depth } => taken(&self.instruction(at)?, depth),
+            Reason::TakenOutOfRange { at, .. } => Some(taken(&self.instruction(at)?)),
             Reason::NoPlace { at, .. } => astray(&self.instruction(at)?),
             Reason::TooFewValues { at, depth, need } => Some(too_few(&self.instruction(at)?, depth, need)),
             _ => None,
@@ -82,13 +82,15 @@ impl<N: Fn(usize) -> String> Refused<'_, N> {
 /// An instruction that takes the depth out of its range.
 fn behind(read: &Instruction<'_>, depth: u16) -> Option<String> {
     let effect = read.opcode().stack_effect(read.operand()).ok()?;
+    if effect < 0 && read.opcode().jump_taken_stack_effect().is_ok() {
+        return Some(taken(read));
+    }
     Some(format!("{:?} {}", read.opcode(), beyond(effect, depth)))
 }
 
-/// A jump that does where it is taken.
-fn taken(read: &Instruction<'_>, depth: u16) -> Option<String> {
-    let effect = read.opcode().jump_taken_stack_effect().ok()?;
-    Some(format!("{:?} {}", read.opcode(), beyond(effect, depth)))
+/// A jump that finds no value: it takes at most one, by whichever way it goes.
+fn taken(read: &Instruction<'_>) -> String {
+    format!("{:?} needs a value on the stack; it has none here", read.opcode())
 }
 
 /// Which end of the range, by the effect's direction. What is taken off in the end has to be there at least.
@@ -195,7 +197,22 @@ mod tests {
             (
                 &[94, 0, 0],
                 [0, 0],
-                "ForIter needs at least 1 value on the stack; it has none here",
+                "ForIter needs a value on the stack; it has none here",
+            ),
+            (
+                &[89, 0, 0],
+                [0, 0],
+                "JumpIfTrue needs a value on the stack; it has none here",
+            ),
+            (
+                &[92, 0, 0],
+                [0, 0],
+                "JumpIfFalseOrPop needs a value on the stack; it has none here",
+            ),
+            (
+                &[94, 0, 0],
+                [0, 65_535],
+                "ForIter adds 1 value to the stack; it has 65535 here, and 65,535 is the most",
             ),
         ] {
             assert_eq!(told(code, &starts), words);

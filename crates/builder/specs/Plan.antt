@@ -1,5 +1,5 @@
 -- What an emitting call decides: R28, "19, 1, 8, then dead code is accepted and nothing changes, then 3,
--- taken depth 5, 12 or 13, 11, 6, 7, 2, 4, 5, and last 18: code, locations, marks".
+-- taken depth 4, 12 or 13, 11, 6, 7, 2, 4, 5, and last 18: code, locations, marks".
 -- Assumes nothing.
 use mathlib.Core.Bool.{Bool, true, false, cond, _&&_}
 use Prim.Native.Nat.{ℕ}
@@ -72,7 +72,7 @@ abbrev pub askSound : Asked → Bool
 askSound asked =
     waySound (asked .way) (asked .core) (asked .marks) && soundOf (asked .core) (asked .code) (asked .locations)
 
--- 3, taken-depth 5: the depth that a jump arrives with
+-- 3, taken-depth 4: the depth that a jump arrives with
 abbrev pub takenIn : (way : Way) (here opcode : ℕ) → After
 takenIn Onward here opcode = A.Depth here
 takenIn Ahead here opcode = takenDepthOf here opcode
@@ -168,7 +168,7 @@ enterOf sound opcode name depth =
 unfoldable pub emittingOf : Asked → Plan
 emittingOf asked =
     entered (enterOf (askSound asked) (asked .opcode) (asked .name) (asked .core .depth))  -- 19, 1, 8, dead code
-    (λ (here : ℕ). arrived (takenIn (asked .way) here (asked .opcode))  -- 3, taken-depth 5
+    (λ (here : ℕ). arrived (takenIn (asked .way) here (asked .opcode))  -- 3, taken-depth 4
     (λ (taken : ℕ). aimed (asked .way)  -- 12 or 13
     (guard (meetsAim (asked .way) taken) DepthsDiffer  -- 11
     (guard (nearAim (asked .way) (asked .core .code)) JumpTooFar  -- 6

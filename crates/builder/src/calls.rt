@@ -322,7 +322,7 @@ impl Builder {
 
     // Emits a forward jump, whose target is not known yet, and answers the label to patch later. After Jump the code is
     // dead; the other jumps go on. In dead code the label is Dead.
-    // Refuses 19, 1, then, live, 3, 5 of the taken depth, 4, 5, 18.
+    // Refuses 19, 1, then, live, 3, 4 of the taken depth, 4, 5, 18.
     pub fn emit_jump(
         self,
         opcode: u8,
@@ -390,7 +390,7 @@ impl Builder {
     }
 
     // Emits a jump back to a known target.
-    // Refuses 19, 1, then, live, 3, 5 of the taken depth, 12 or 13, 11, 6, 4, 5, 18.
+    // Refuses 19, 1, then, live, 3, 4 of the taken depth, 12 or 13, 11, 6, 4, 5, 18.
     pub fn emit_jump_to(
         self,
         opcode: u8,

@@ -8,7 +8,7 @@ use lib.ListN.{length, drop, replicate}
 use Rattle.op.specs.Opcodes.{lastOpcode, Jump, RaiseUnboundLocal, ForIter, JumpIfTrueOrPop}
 use Rattle.op.specs.Refusals.{numberOf}
 use Rattle.op.specs.declared.Operand.the-variants.{U16, CallKw}
-use Rattle.op.specs.declared.Refusal.the-variants.{DepthTooLarge, JumpTooFar, TooManyKeywords, NameTooLarge}
+use Rattle.op.specs.declared.Refusal.the-variants.{DepthBelowZero, JumpTooFar, TooManyKeywords, NameTooLarge}
 use Rattle.op.specs.declared.Refusal.the-variants.{TooManyConstants, DepthsDiffer, NoDepths}
 use Rattle.code.specs.Bytes.{signed}
 use Rattle.code.specs.Encode.{encode}
@@ -129,12 +129,12 @@ pub record Examples : Type 0 where
       × (emitOf (dead 0 0) CallFunctionKw (CallKw 0 (length names % 256)) names code []
       ≡ outcome (R.Accepted (dead 0 0)) code [])
       × (emitNamed (dead 0 0) RaiseUnboundLocal 65536 (U16 0) [] code [] ≡ outcome (R.Refused NameTooLarge) code []) × (numberOf NameTooLarge ≡ 8))
-  -- F: ForIter at depth 1: 2 / 0; at depth 0: 5
+  -- F: ForIter at depth 1: 2 / 0; at depth 0: 4
   pub f : (code : List ℕ) → length code ≡ 3
       → (emitJumpOf (live 1 0 0) ForIter code [] (0 ∷ 0 ∷ 0 ∷ 0 ∷ []) ≡ jumpOutcome (J.Made (live 2 3 1) (L.Row 0)) (put 0 (0x5E ∷ 0 ∷ 0 ∷ []) code) [] (put 0 (markRow openKind 0 0) (0 ∷ 0 ∷ 0 ∷ 0 ∷ [])))
       × (emitJumpOf (live 0 0 0) ForIter code [] (0 ∷ 0 ∷ 0 ∷ 0 ∷ [])
-      ≡ jumpOutcome (J.Refused DepthTooLarge) code [] (0 ∷ 0 ∷ 0 ∷ 0 ∷ []))
-      × (numberOf DepthTooLarge ≡ 5)
+      ≡ jumpOutcome (J.Refused DepthBelowZero) code [] (0 ∷ 0 ∷ 0 ∷ 0 ∷ []))
+      × (numberOf DepthBelowZero ≡ 4)
   -- G: JumpIfTrueOrPop at depth 1 patched right behind itself: 11
   pub g : (emitJumpOf (live 1 0 0) JumpIfTrueOrPop (0 ∷ 0 ∷ 0 ∷ []) [] (0 ∷ 0 ∷ 0 ∷ 0 ∷ [])
       ≡ jumpOutcome (J.Made (live 0 3 1) (L.Row 0)) (0x5B ∷ 0 ∷ 0 ∷ []) [] (markRow openKind 0 1))

@@ -27,14 +27,14 @@ landing low d (E.Refused r) = Refused r
 abbrev pub lowFalling : Refusal
 lowFalling = DepthBelowZero
 
--- line 5, "or a taken depth below 0" (R12)
+-- line 4, "or a taken depth is" (R12)
 abbrev pub lowTaken : Refusal
-lowTaken = DepthTooLarge
+lowTaken = DepthBelowZero
 
 -- the depth after falling through: 1, 2, then 4 or 5 (R11)
 abbrev pub afterOf : ℕ → ℕ → Operand → After
 afterOf d k o = landing lowFalling d (effectOf k o)
 
--- the depth that a taken jump arrives with: 1, 3, then 5 (R12)
+-- the depth that a taken jump arrives with: 1, 3, then 4 or 5 (R12)
 abbrev pub takenDepthOf : ℕ → ℕ → After
 takenDepthOf d k = landing lowTaken d (takenOf k)

@@ -38,9 +38,13 @@ pub fn after(depth: u16, opcode: u8, operand: Operand) -> After
     )
 }
 
-// The depth that a taken jump arrives with: refuses 1, 3, then 5.
+// The depth that a taken jump arrives with: refuses 1, 3, then 4 or 5.
 pub fn taken(depth: u16, opcode: u8) -> After
     ensures { λ r. ⌜ r ≡ takenDepthOf depth opcode ⌝ }
 {
-    land(Refusal::DepthTooLarge, depth, effects::taken_effect(opcode))
+    land(
+        Refusal::DepthBelowZero,
+        depth,
+        effects::taken_effect(opcode),
+    )
 }

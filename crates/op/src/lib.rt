@@ -35,9 +35,9 @@ pub enum Refusal {
     WrongShape,
     // 3: jump call with another opcode
     NotAJump,
-    // 4: depth after falling through below 0
+    // 4: depth after falling through, or a taken depth, below 0
     DepthBelowZero,
-    // 5: that depth above 65,535, or a taken depth below 0
+    // 5: such a depth above 65,535
     DepthTooLarge,
     // 6: displacement outside its range
     JumpTooFar,

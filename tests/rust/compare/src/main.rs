@@ -97,7 +97,10 @@ fn run_areas(quick: bool, seed: u64) -> bool {
         }
     });
     let totals = totals.into_inner().expect("no area panics");
-    println!("compare: {} comparisons, {} differences", totals.comparisons, totals.differences);
+    println!(
+        "compare: {} comparisons, {} differences",
+        totals.comparisons, totals.differences
+    );
     totals.differences == 0 && totals.empty == 0
 }
 

@@ -88,10 +88,10 @@ fn cases() -> Vec<Case> {
         // 7: the opcode and its location row.
         case(&[room, "set_location 1 2", &function_kw], 7, &[83], 1, Some(3)),
         case(&[room, "set_location 1 2", &attr_kw], 7, &[85], 1, Some(3)),
-        // Nothing: the taken 5, 8.
+        // Nothing: the taken 4, 8.
         case(
             &["new live 0 60 60 0 2 0 8 4", "set_location 1 2", "emit_jump 94"],
-            5,
+            4,
             &[],
             0,
             Some(0),

@@ -99,7 +99,11 @@ fn wrong(tally: &mut Tally, plan: &mut Plan, byte: u8, shape: u8, fields: Fields
         by: expected.by,
     };
     tally.compare((answer, out), expected, || {
-        format!("{}, shape {shape}, {fields:?}, {} names, room {room}", named(byte), names.len())
+        format!(
+            "{}, shape {shape}, {fields:?}, {} names, room {room}",
+            named(byte),
+            names.len()
+        )
     });
 }
 

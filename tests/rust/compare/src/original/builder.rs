@@ -98,7 +98,7 @@ fn depth_behind(depth: u16, op: Opcode, operand: Operand<'_>) -> Answer {
             if code_size(&builder) == 0 {
                 return depth_behind_its_double(depth, op, operand);
             }
-            Answer::refused(refusal_of_error(&error))
+            Answer::refused(refusal_of_error(&error, true))
         }
         // No public call pairs the two, so only stack_effect can refuse them.
         Ok(None) => effect_of(op, operand),
@@ -137,7 +137,7 @@ fn depth_of_label(depth: u16, op: Opcode) -> Option<Answer> {
     let mut builder = live_at(depth);
     match message_of(|| builder.emit_jump(op)) {
         Ok(Ok(label)) => Some(Answer::accepted(number_after(&format!("{label:?}"), "stack_depth: "))),
-        Ok(Err(error)) if code_size(&builder) == 0 => Some(Answer::refused(refusal_of_error(&error))),
+        Ok(Err(error)) if code_size(&builder) == 0 => Some(Answer::refused(refusal_of_error(&error, false))),
         Ok(Err(_)) => None,
         Err(message) => match refusal_of_panic(&message) {
             4 => None,
@@ -154,7 +154,7 @@ pub fn depth_by_mismatch(depth: u16, op: Opcode) -> Answer {
     let mut builder = live_at(depth);
     match message_of(|| builder.emit_jump_to(op, target)) {
         Ok(Ok(())) => panic!("{op:?} at depth {depth} jumps to another depth"),
-        Ok(Err(error)) => Answer::refused(refusal_of_error(&error)),
+        Ok(Err(error)) => Answer::refused(refusal_of_error(&error, code_size(&builder) > 0)),
         Err(message) if message.contains("arriving with depth ") => {
             Answer::accepted(number_after(&message, "arriving with depth "))
         }

@@ -24,7 +24,7 @@ pub fn emitted(op: Opcode, operand: Operand<'_>) -> Vec<u8> {
 /// The refusal of a keyword call with too many names.
 pub fn names_refused(op: Opcode, operand: Operand<'_>) -> u32 {
     let emission = emit(&mut live_at(DEEP), op, operand).expect("a public call writes keyword calls");
-    refusal_of_error(&emission.expect_err("the names are too many"))
+    refusal_of_error(&emission.expect_err("the names are too many"), true)
 }
 
 /// Code that holds a jump with this displacement, and where it stands. None where the Rust makes no such jump: to

@@ -66,9 +66,12 @@ fn refusal_of_panic(message: &str) -> u32 {
         .1
 }
 
-fn refusal_of_error(error: &CompileError) -> u32 {
+/// The refusal that an error stands for. The Rust has one error for a depth above 65,535 and for a taken depth below 0: the
+/// instruction has been written where it gives the first, and not where it gives the second.
+fn refusal_of_error(error: &CompileError, wrote: bool) -> u32 {
     match error.message() {
-        "function too large: required stack exceeds u16::MAX" => 5,
+        "function too large: required stack exceeds u16::MAX" if wrote => 5,
+        "function too large: required stack exceeds u16::MAX" => 4,
         "function too large: jump offset exceeds i16 range" => 6,
         "call has too many keyword arguments; maximum is 255 per call" => 7,
         "module has too many distinct names; the bytecode format supports up to 65536 interned strings" => 8,

@@ -97,6 +97,7 @@ impl Sequence {
         };
         let marks = &mut self.marks;
         let depth = builder.stack_depth();
+        let before = builder.current_offset();
         match message_of(|| answer(&mut builder, marks, call)) {
             Ok(None) => None,
             Ok(Some(Ok(values))) => {
@@ -107,7 +108,10 @@ impl Sequence {
                 self.builder = Some(builder);
                 Some(format!("ok{values}"))
             }
-            Ok(Some(Err(error))) => Some(format!("refused {}", refusal_of_error(&error))),
+            Ok(Some(Err(error))) => {
+                let wrote = builder.current_offset() != before;
+                Some(format!("refused {}", refusal_of_error(&error, wrote)))
+            }
             Err(message) => Some(format!("refused {}", refusal_of_panic(&message))),
         }
     }
@@ -115,8 +119,10 @@ impl Sequence {
     /// What the Rust holds after a call that it hands an error back from.
     pub fn left(&mut self, call: &Call) -> Left {
         let mut builder = self.builder.take().expect("the sequence goes on");
+        let before = builder.current_offset();
         let outcome = answer(&mut builder, &mut self.marks, call).expect("the Rust has the call");
-        let refusal = refusal_of_error(&outcome.expect_err("the call is refused"));
+        let wrote = builder.current_offset() != before;
+        let refusal = refusal_of_error(&outcome.expect_err("the call is refused"), wrote);
         let depth = builder.stack_depth();
         let [code, locations, ..] = cells(&builder.build());
         Left {

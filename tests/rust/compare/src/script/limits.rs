@@ -14,6 +14,7 @@ pub fn limits() -> Vec<(&'static str, Script)> {
     vec![
         ("far jumps", far_jumps()),
         ("depths at their ends", depths()),
+        ("jumps that find no value", jumps_without_a_value()),
         ("keyword names", keyword_names()),
         ("constants", constants()),
         ("full tables", full_tables()),
@@ -108,6 +109,44 @@ fn depths() -> Script {
             script.say(format!("new live {depth} 40 {ROOM}"));
             script.say(format!("emit_u8 {} {}", UnpackSequence as u8, count % 256));
             script.say("stack_depth");
+        }
+    }
+    script
+}
+
+/// Where the taken depth stands in the order: every opcode as a jump at the depths 0 and 1, in dead code and at a tampered
+/// depth, to a target of its own depth and of another, to Dead, to no row, to a label's row, too far, and without room.
+fn jumps_without_a_value() -> Script {
+    let deeper = format!("emit {}", LoadNone as u8);
+    let flatter = format!("emit {}", Pop as u8);
+    let label = format!("emit_jump {}", JumpIfTrueOrPop as u8);
+    let before: [&[&str]; 9] = [
+        &[],
+        &["current_jump_target"],
+        &["current_jump_target", &deeper],
+        &["current_jump_target", &flatter],
+        &[&deeper, &label],
+        &["current_jump_target", "tamper code 33000"],
+        &["current_jump_target", "tamper depth 0"],
+        &["current_jump_target", "tamper depth 1"],
+        &["current_jump_target", "tamper marks 41"],
+    ];
+    let mut script = Script::default();
+    for op in 0..=131 {
+        let calls = ["", "_to"].map(|call| format!("emit_jump{call} {op}"));
+        let [made, to] = &calls;
+        for call in [made, &format!("{to} 0"), &format!("{to} 7"), &format!("{to} dead")] {
+            for told in ["live 0", "live 1", "dead"] {
+                for room in [40_000, 2] {
+                    for lines in before {
+                        script.say(format!("new {told} {room} {ROOM}"));
+                        lines.iter().for_each(|line| _ = script.say(line));
+                        script.say(call);
+                        script.say("stack_depth");
+                        script.say("counts");
+                    }
+                }
+            }
         }
     }
     script

@@ -434,10 +434,10 @@ impl Model {
         bytes.iter().for_each(|&byte| self.store(CODE, &[byte.into()]));
     }
 
-    /// The taken depth: 3, 5.
+    /// The taken depth: 3, 4.
     fn taken(depth: u16, op: u8) -> Result<u64, Refusal> {
         let Some(effect) = taken(op) else { return refuse(3) };
-        u64::try_from(i64::from(depth) + effect).or_else(|_| refuse(5))
+        u64::try_from(i64::from(depth) + effect).or_else(|_| refuse(4))
     }
 
     /// A jump's instruction with its displacement.
