@@ -6,7 +6,7 @@
  * are lent to one call must not overlap, and no other thread may write to them meanwhile.
  * Link with libtokenfinch.a (docs/C.md).
  *
- * An answer is one 64-bit number. Its upper half is 0, or the number of the refusal; its lower half
+ * An answer (tf_answer) is one 64-bit number. Its upper half is 0, or the number of the refusal; its lower half
  * is the value, in two's complement where it can be negative, or what the refusal names. tf_refusal, tf_value and
  * tf_named take it apart:
  *
@@ -164,6 +164,17 @@ tf_answer tf_instruction_size(uint8_t opcode, uint8_t names);
  * length (3 to 20). No byte 0 is written behind it. A refusal writes nothing. out may be null where room is 0.
  * Refuses: 1, 18. */
 tf_answer tf_opcode_name(uint8_t opcode, uint8_t *out, size_t room);
+
+/* The fingerprint of the opcode table, 0x47F48E5E55DA518F: tf_fnv1a of the bytes that there are for each opcode from 0 on,
+ * its byte, its name as tf_opcode_name writes it, a zero byte and its shape's number. It is the number itself and no
+ * tf_answer. Where those of two installations differ, some opcode has another name or shape in one of them; where they
+ * are the same, the tables are too, as far as a hash of 64 bits can say. Never refuses. */
+uint64_t tf_fingerprint(void);
+
+/* The 64-bit FNV-1a hash of length bytes, which may be any; of none, where bytes may be null, it is 0xCBF29CE484222325. It is
+ * the number itself and no tf_answer. It tells what was changed by accident, not what was changed on purpose. Never
+ * refuses. */
+uint64_t tf_fnv1a(const uint8_t *bytes, size_t length);
 
 /* How many instructions length bytes of code are, read one behind the other from the first byte to the last.
  * Refuses: 10 for over 1,048,576 bytes; 1 and 22, with the offset, where the reading stops at a byte that is no opcode, or at

@@ -279,6 +279,23 @@ fn the_opcode_table() {
 }
 
 #[test]
+fn fingerprints_are_16_digits() {
+    let said = |words: &[&str], input: &[u8]| {
+        let output = rules(words, input);
+        assert_eq!((output.status.code(), text(&output.stderr)), (Some(0), ""));
+        text(&output.stdout).to_owned()
+    };
+    assert_eq!(said(&["fingerprint"], b""), "47f48e5e55da518f\n");
+    assert_eq!(said(&["fingerprint", "-"], b""), "cbf29ce484222325\n");
+    assert_eq!(said(&["fingerprint", "-"], b"ab"), "089c4407b545986a\n");
+    let file = repository("examples/brake.rule");
+    let bytes = fs::read(&file).expect("the rule is there");
+    let by_name = said(&["fingerprint", file.to_str().expect("a plain path")], b"");
+    assert_eq!(by_name, said(&["fingerprint", "-"], &bytes));
+    assert_ne!(by_name, said(&["fingerprint", "-"], &bytes[1..]));
+}
+
+#[test]
 fn what_is_no_good_is_one_line_and_status_2() {
     let folder = repository("examples");
     let folder = folder.to_str().expect("a plain path");
@@ -309,6 +326,9 @@ fn what_is_no_good_is_one_line_and_status_2() {
         &["compile", "-", "-o"],
         &["compile", "-", "0:0", "--unchecked"],
         &["compile", "-", "--strict", "--unchecked"],
+        &["fingerprint", "no-such-file"],
+        &["fingerprint", folder],
+        &["fingerprint", "-", "-"],
         &["opcodes", "more"],
         &["replay", "more"],
     ] {

@@ -64,6 +64,17 @@ static void counts(size_t length)
         report("not counted", tf_named(answer) < length && refused_by(answer, TF_UNKNOWN_OPCODE, TF_CUT_SHORT));
 }
 
+/* Each byte of the code counts, and none behind it. */
+static void hashes(size_t length)
+{
+    lend_code(length);
+    remember();
+    uint64_t hash = UINT64_C(0xCBF29CE484222325);
+    for (size_t i = 0; i < length; i++)
+        hash = (hash ^ ((const uint8_t *)lent_at(CODE))[i]) * UINT64_C(0x100000001B3);
+    report("the hash", tf_fnv1a(LENT(const uint8_t, CODE)) == hash && all_kept());
+}
+
 /* Whether the work slice ends with so many zeros, and is otherwise as it was. */
 static int zeroed(size_t count)
 {
@@ -233,6 +244,7 @@ int main(void)
         steps(length);
         for (size_t round = 0; round < MOST; round++) {
             counts(length);
+            hashes(length);
             uint8_t mode = random_byte() % 2;
             tf_answer checked = checks_of(mode, length, round % 6, length + round % 4, length + round / 4 % 4);
             explanations(mode, checked, round % 7);

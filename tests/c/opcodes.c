@@ -126,6 +126,25 @@ static void flags(void)
     report("0xFF", tf_decode_assert_flags(0xFF) == TF_COMPARE_INVALID);
 }
 
+/* Each opcode's byte, name, a zero byte and shape, as the other functions give them. */
+static void fingerprint(void)
+{
+    static uint8_t table[TF_OP_LAST * 32 + 32];
+    size_t length = 0;
+    for (uint8_t opcode = 0; opcode <= TF_OP_LAST; opcode++) {
+        table[length++] = opcode;
+        length += (size_t)tf_value(tf_opcode_name(opcode, table + length, 32));
+        table[length++] = 0;
+        table[length++] = (uint8_t)tf_value(tf_operand_shape(opcode));
+    }
+    report("the table's fingerprint", tf_fingerprint() == UINT64_C(0x47F48E5E55DA518F));
+    report("it is the hash of names and shapes", tf_fnv1a(table, length) == tf_fingerprint());
+    table[1] ^= 1;
+    report("another name is another hash", tf_fnv1a(table, length) != tf_fingerprint());
+    report("the hash of nothing", tf_fnv1a(NULL, 0) == UINT64_C(0xCBF29CE484222325));
+    report("the hash of foobar", tf_fnv1a((const uint8_t *)"foobar", 6) == UINT64_C(0x85944171F73967E8));
+}
+
 int main(void)
 {
     shapes();
@@ -136,5 +155,6 @@ int main(void)
     sizes();
     names();
     flags();
+    fingerprint();
     return verdict("opcodes");
 }

@@ -15,8 +15,10 @@ mod c {
         pub safe fn tf_instruction_size(opcode: u8, names: u8) -> u64;
         pub safe fn tf_assert_flags(comparison: u8) -> u8;
         pub safe fn tf_decode_assert_flags(flags: u8) -> u8;
+        pub safe fn tf_fingerprint() -> u64;
         // Below, each pointer has as many elements behind it as the number after it says; `greatest` has one.
         pub fn tf_opcode_name(opcode: u8, out: *mut u8, room: usize) -> u64;
+        pub fn tf_fnv1a(bytes: *const u8, length: usize) -> u64;
         pub fn tf_step(code: *const u8, length: usize, at: usize, out: *mut u64, room: usize) -> u64;
         pub fn tf_check(
             mode: u8,
@@ -196,7 +198,7 @@ mod c {
     }
 }
 
-pub use c::{tf_assert_flags, tf_decode_assert_flags};
+pub use c::{tf_assert_flags, tf_decode_assert_flags, tf_fingerprint};
 
 /// An answer as it crosses: the refusal's number in the upper half, 0 where the call was accepted; in the lower half
 /// the value, or what the refusal names.
@@ -272,6 +274,10 @@ pub fn instruction_size(opcode: u8, names: u8) -> Answer {
 
 pub fn opcode_name(opcode: u8, out: &mut [u8]) -> Answer {
     Answer(unsafe { c::tf_opcode_name(opcode, out.as_mut_ptr(), out.len()) })
+}
+
+pub fn fnv1a(bytes: &[u8]) -> u64 {
+    unsafe { c::tf_fnv1a(bytes.as_ptr(), bytes.len()) }
 }
 
 pub fn step(code: &[u8], at: usize, out: &mut [u64]) -> Answer {

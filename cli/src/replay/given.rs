@@ -1,7 +1,9 @@
-//! The lines that need no builder: the opcode rules, and the decoder, the checker, a lookup and the reading of a listing on
-//! what the line gives.
+//! The lines that need no builder: the opcode rules with the table's fingerprint, and the decoder, the checker, a lookup, the
+//! reading of a listing and the hash on what the line gives.
 
-use tokenfinch::{Assignment, Mode, Refusal, check_into, lookups, read_listing_into, rules, step};
+use tokenfinch::{
+    Assignment, Mode, Refusal, check_into, fnv1a, lookups, opcode_fingerprint, read_listing_into, rules, step,
+};
 
 use super::{
     out::Out,
@@ -40,6 +42,8 @@ impl Given {
                 | b"dead_maker"
                 | b"assert_flags"
                 | b"decode_assert_flags"
+                | b"fingerprint"
+                | b"fnv1a"
                 | b"find_in_two"
                 | b"step"
                 | b"check"
@@ -53,6 +57,8 @@ impl Given {
         match name {
             b"effect" => effect(words, out),
             b"assert_flags" => assert_flags(words, out),
+            b"fingerprint" => fingerprint(words, out),
+            b"fnv1a" => hash(words, out),
             b"find_in_two" => find_in_two(words, out),
             b"step" => one_step(words, out),
             b"check" => self.check(words, out),
@@ -130,6 +136,21 @@ impl Given {
         fill(&mut self.work, work);
         check_into(mode, code, starts, &mut self.depths, &mut self.work)
     }
+}
+
+/// `fingerprint`
+fn fingerprint(words: Words<'_>, out: &mut Out) -> Option<()> {
+    words.end()?;
+    out.ok().value(opcode_fingerprint());
+    Some(())
+}
+
+/// `fnv1a HEX`
+fn hash(mut words: Words<'_>, out: &mut Out) -> Option<()> {
+    let bytes = words.bytes()?;
+    words.end()?;
+    out.ok().value(fnv1a(&bytes));
+    Some(())
 }
 
 /// The lines whose argument is one byte.

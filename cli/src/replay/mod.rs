@@ -138,8 +138,6 @@ mod tests {
     #[test]
     fn what_is_still_to_come_is_no_line_yet() {
         for line in [
-            "fingerprint",
-            "fnv1a 00",
             "table_number",
             "step table 4 05 0",
             "check table 4 05",
@@ -161,6 +159,35 @@ mod tests {
             "check_here table 4",
         ]);
         assert_eq!(told, ["ok", "? 2", "? 3", "? 4", "? 5"]);
+    }
+
+    #[test]
+    fn hashes_are_decimal() {
+        let told = told([
+            "fingerprint",
+            "fnv1a -",
+            "fnv1a 00",
+            "fnv1a 666f6f626172",
+            "fingerprint 4",
+            "fnv1a",
+            "fnv1a 0",
+            "fnv1a 00 00",
+            "fnv1a FF",
+        ]);
+        assert_eq!(
+            told,
+            [
+                "ok 5184925606828724623",
+                "ok 14695981039346656037",
+                "ok 12638153115695167455",
+                "ok 9625390261332436968",
+                "? 5",
+                "? 6",
+                "? 7",
+                "? 8",
+                "? 9"
+            ]
+        );
     }
 
     #[test]

@@ -3,6 +3,7 @@
 
 mod check;
 mod compile;
+mod fingerprint;
 mod listing;
 mod meeting;
 mod misread;
@@ -77,6 +78,7 @@ fn command(words: &[OsString]) -> Outcome {
         ("check", words) => check::run(words),
         ("stack", words) => stack::run(words),
         ("compile", words) => compile::run(words),
+        ("fingerprint", words) => fingerprint::run(words),
         ("opcodes", []) => opcodes::run(&mut io::stdout().lock()),
         ("replay", []) => match replay::run(io::stdin().lock(), io::stdout().lock()) {
             Ok(()) => Ok(true),

@@ -8,6 +8,8 @@ ghost use Rattle.op.specs.Shapes.{shapeOf};
 ghost use Rattle.op.specs.Effects.{takenOf, netOf, deadnessOf};
 ghost use Rattle.op.specs.Depths.{takenDepthOf};
 ghost use Rattle.op.specs.Flags.{decodedFlags};
+ghost use Rattle.fingerprint.specs.Fnv.{fnv1aOf};
+ghost use Rattle.fingerprint.specs.Table.{fingerprint};
 ghost use Rattle.code.specs.Decode.{decode};
 ghost use Rattle.code.specs.Lookups.{locationOf, handlerOf, constantOf, localNameOf};
 ghost use Rattle.api.specs.Answers.{shapeAnswer, netAnswer, deadAnswer, depthAnswer, sizeAnswer, nameAnswer};
@@ -185,6 +187,20 @@ pub extern "C" fn tf_decode_assert_flags(flags: u8) -> u8
         AssertFlags::Valid(compared) => answers::of_compared(compared),
         AssertFlags::Invalid => 11,
     }
+}
+
+#[no_mangle]
+pub extern "C" fn tf_fingerprint() -> u64
+    ensures { λ r. ⌜ r ≡ fingerprint ⌝ }
+{
+    fingerprint::opcode_fingerprint()
+}
+
+#[no_mangle]
+pub extern "C" fn tf_fnv1a(bytes: &[u8]) -> u64
+    ensures { λ r. ⌜ r ≡ fnv1aOf (now (bytes .entry)) ⌝ }
+{
+    fingerprint::fnv1a(bytes)
 }
 
 #[no_mangle]

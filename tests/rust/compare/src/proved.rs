@@ -15,8 +15,11 @@ mod c {
         pub safe fn tf_instruction_size(opcode: u8, names: u8) -> u64;
         pub safe fn tf_assert_flags(comparison: u8) -> u8;
         pub safe fn tf_decode_assert_flags(flags: u8) -> u8;
+        pub safe fn tf_fingerprint() -> u64;
         /// `out` has `room` bytes that can be written; it may be null where `room` is 0.
         pub unsafe fn tf_opcode_name(opcode: u8, out: *mut u8, room: usize) -> u64;
+        /// `bytes` may be null where `length` is 0.
+        pub unsafe fn tf_fnv1a(bytes: *const u8, length: usize) -> u64;
         // Below, each pointer has as many elements behind it as the number after it says; `greatest` has one.
         pub unsafe fn tf_step(code: *const u8, length: usize, at: usize, out: *mut u64, room: usize) -> u64;
         pub unsafe fn tf_write(
@@ -168,6 +171,21 @@ pub fn assert_flags(comparison: u8) -> u8 {
 
 pub fn decode_assert_flags(flags: u8) -> u8 {
     c::tf_decode_assert_flags(flags)
+}
+
+pub fn fingerprint() -> u64 {
+    c::tf_fingerprint()
+}
+
+pub fn fnv1a(bytes: &[u8]) -> u64 {
+    // SAFETY: the slice is as long as is said.
+    unsafe { c::tf_fnv1a(bytes.as_ptr(), bytes.len()) }
+}
+
+/// The hash of no bytes, by a null pointer.
+pub fn fnv1a_of_nothing() -> u64 {
+    // SAFETY: the header takes null for no bytes.
+    unsafe { c::tf_fnv1a(std::ptr::null(), 0) }
 }
 
 pub fn step(code: &[u8], at: usize, out: &mut [u64]) -> Answer {

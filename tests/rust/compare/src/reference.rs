@@ -1,11 +1,13 @@
 //! A decoder and lookups written for this comparison from the rules' text ("Bytes and depths", "Lookups"), without a
 //! look at the proved ones; `depths` has the depth checker, `paths` the depths along paths, `reasons` what the checker
-//! tells beside 23, `listed` the reader of listings. Which opcode has which shape the text leaves to op.rs's
-//! `operand_shape`, and so does this.
+//! tells beside 23, `listed` the reader of listings, `hash` FNV-1a, of which `published` has what others say. Which opcode
+//! has which shape the text leaves to op.rs's `operand_shape`, and so does this.
 
 pub mod depths;
+pub mod hash;
 pub mod listed;
 pub mod paths;
+pub mod published;
 pub mod reasons;
 
 use crate::original;

@@ -22,3 +22,14 @@ pub mod expressions;
 pub mod intern;
 pub mod parse;
 pub mod value;
+
+#[cfg(test)]
+mod tests {
+    use crate::bytecode::op::opcode_fingerprint;
+
+    /// The original has this function for its tests alone, so that it is asked in one.
+    #[test]
+    fn the_fingerprint_is_the_proved_librarys() {
+        assert_eq!(tokenfinch::opcode_fingerprint(), opcode_fingerprint());
+    }
+}

@@ -11,6 +11,7 @@ mod depth_after;
 mod depth_taken;
 mod effect;
 mod explained;
+mod fingerprint;
 mod header;
 mod instructions;
 mod left;
@@ -30,7 +31,7 @@ use crate::{Plan, original, tally::Tally};
 
 pub type Area = fn(&mut Tally, &mut Plan);
 
-pub const ALL: [(&str, Area); 23] = [
+pub const ALL: [(&str, Area); 24] = [
     ("shape", shape::run),
     ("effect", effect::run),
     ("taken", taken::run),
@@ -40,6 +41,7 @@ pub const ALL: [(&str, Area); 23] = [
     ("size", size::run),
     ("name", name::run),
     ("assert flags", assert_flags::run),
+    ("fingerprint", fingerprint::run),
     ("decode", decode::run),
     ("write", write::run),
     ("damaged", damaged::run),

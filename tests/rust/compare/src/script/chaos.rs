@@ -179,7 +179,7 @@ fn given(random: &mut Random) -> String {
         .collect();
     let hex = if hex.is_empty() { "-".to_owned() } else { hex };
     let (a, b) = (random.below(5), random.below(3));
-    match random.below(10) {
+    match random.below(12) {
         0 => format!("step {hex} {a}"),
         1 => format!("check {hex} {a} {b}"),
         2 => format!("check strict {hex} 0 0 {a}"),
@@ -202,6 +202,8 @@ fn given(random: &mut Random) -> String {
         ),
         7 => format!("cells {} {a} {}", TABLES[random.below(7)], a + random.below(9)),
         8 => format!("read_listing {b} {}", listing(random)),
+        9 => format!("fnv1a {hex}"),
+        10 => "fingerprint".to_owned(),
         _ => {
             let first = format!("{a} {} 30 1 2 0", number(random, 32));
             format!(

@@ -11,6 +11,7 @@ use crate::{
     reference::{
         self, Decoder, Step,
         depths::{Depths, Mode, makes_dead},
+        hash,
         listed::Reader,
     },
 };
@@ -146,6 +147,8 @@ impl Model {
             | "dead_maker"
             | "assert_flags"
             | "decode_assert_flags"
+            | "fingerprint"
+            | "fnv1a"
             | "step" => self.alone(call),
             "check" | "check_slice" | "check_zeros" => return Some(self.check_given(call.name, Mode::Net, call)),
             "check strict" | "check_slice strict" | "check_zeros strict" => {
@@ -657,6 +660,8 @@ impl Model {
                 0x10..=0x19 => format!(" {}", n[0] - 0x10),
                 _ => " invalid".into(),
             }),
+            "fingerprint" => one(hash::fingerprint()),
+            "fnv1a" => one(hash::fnv1a(call.bytes.iter().copied())),
             _ => self.step(&call.bytes, n[0] as usize),
         }
     }

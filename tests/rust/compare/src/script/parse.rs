@@ -40,7 +40,7 @@ const DEPTHS_MOST: i128 = 2_000_000;
 /// Each call with the kinds of its words: b u8, h u16, w u32, q u64, i i8, k 0 or 1, t `dead` or u64, d `dead` or u16,
 /// f `none` or 0 to 9, T a table, x bytes, n u16 names to the end, m u32 names to the end, p u32 numbers to the end,
 /// c cells of a slice, z bytes of 105.
-const CALLS: [(&str, &str); 62] = [
+const CALLS: [(&str, &str); 64] = [
     ("set_location", "ww"),
     ("set_location", "wwww"),
     ("emit", "b"),
@@ -89,6 +89,8 @@ const CALLS: [(&str, &str); 62] = [
     ("dead_maker", "b"),
     ("assert_flags", "f"),
     ("decode_assert_flags", "b"),
+    ("fingerprint", ""),
+    ("fnv1a", "x"),
     ("step", "xq"),
     ("check", "xp"),
     ("check strict", "xp"),

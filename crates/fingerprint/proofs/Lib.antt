@@ -1,0 +1,4 @@
+pub mod Wrapping
+pub mod Hashing
+pub mod Tabled
+pub mod Computed

@@ -1,0 +1,3 @@
+pub mod Fnv
+pub mod Table
+pub mod Statements
