@@ -165,15 +165,17 @@ tf_answer tf_instruction_size(uint8_t opcode, uint8_t names);
  * Refuses: 1, 18. */
 tf_answer tf_opcode_name(uint8_t opcode, uint8_t *out, size_t room);
 
-/* The fingerprint of the opcode table, 0x47F48E5E55DA518F: tf_fnv1a of the bytes that there are for each opcode from 0 on,
+/* The fingerprint of the opcode table, TF_FINGERPRINT: tf_fnv1a of the bytes that there are for each opcode from 0 on,
  * its byte, its name as tf_opcode_name writes it, a zero byte and its shape's number. It is the number itself and no
  * tf_answer. Where those of two installations differ, some opcode has another name or shape in one of them; where they
- * are the same, the tables are too, as far as a hash of 64 bits can say. Never refuses. */
+ * are the same, the tables are too, as far as a hash of 64 bits can say. Where it is not TF_FINGERPRINT, the archive is
+ * not the one that this header belongs to. Never refuses. */
 uint64_t tf_fingerprint(void);
+#define TF_FINGERPRINT UINT64_C(0x47F48E5E55DA518F)
 
 /* The 64-bit FNV-1a hash of length bytes, which may be any; of none, where bytes may be null, it is 0xCBF29CE484222325. It is
- * the number itself and no tf_answer. It tells what was changed by accident, not what was changed on purpose. Never
- * refuses. */
+ * the number itself and no tf_answer. Where one byte is replaced by another and nothing else is changed, it is another;
+ * after any other change it can be the same by chance, or because somebody means it to be. Never refuses. */
 uint64_t tf_fnv1a(const uint8_t *bytes, size_t length);
 
 /* How many instructions length bytes of code are, read one behind the other from the first byte to the last.

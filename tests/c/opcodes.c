@@ -138,6 +138,7 @@ static void fingerprint(void)
         table[length++] = (uint8_t)tf_value(tf_operand_shape(opcode));
     }
     report("the table's fingerprint", tf_fingerprint() == UINT64_C(0x47F48E5E55DA518F));
+    report("the header's fingerprint", tf_fingerprint() == TF_FINGERPRINT);
     report("it is the hash of names and shapes", tf_fnv1a(table, length) == tf_fingerprint());
     table[1] ^= 1;
     report("another name is another hash", tf_fnv1a(table, length) != tf_fingerprint());

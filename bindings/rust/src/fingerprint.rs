@@ -23,7 +23,8 @@ pub fn opcode_fingerprint() -> u64 {
     sys::tf_fingerprint()
 }
 
-/// The 64-bit FNV-1a hash of any bytes. It tells what was changed by accident, not what was changed on purpose.
+/// The 64-bit FNV-1a hash of any bytes. Where one byte is replaced by another and nothing else is changed, it is another;
+/// after any other change it can be the same by chance, or because somebody means it to be.
 ///
 /// ```
 /// assert_eq!(tokenfinch::fnv1a(b"foobar"), 0x8594_4171_f739_67e8);

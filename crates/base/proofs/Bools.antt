@@ -60,6 +60,10 @@ pub or-other : (a b : Bool) → T (a || b) → (T a → ⊥) → T b
 or-other true b t n = absurd (n tt)
 or-other false b t n = t
 
+pub or-false : (a b : Bool) → (a || b) ≡ false → (a ≡ false) × (b ≡ false)
+or-false true b e = (e, clash cc)
+or-false false b e = (refl, e)
+
 pub or-true : (a : Bool) → (a || true) ≡ true
 or-true true = refl
 or-true false = refl

@@ -21,8 +21,9 @@ use Rattle.op.specs.declared.Refusal.the-variants.{UnknownOpcode, WrongShape, J
 use Rattle.op.specs.declared.Refusal.the-variants.{DepthsDiffer, Full, Unsound}
 use Rattle.op.specs.declared.Shaped.the-variants as P
 use Rattle.op.specs.declared.Table.the-variants.{Code, Locations, Marks}
+use Rattle.op.proofs.Shaping.{same-shape}
 use Rattle.code.specs.Decode.{namesIn}
-use Rattle.code.proofs.Writing.{same-shape, going}
+use Rattle.code.proofs.Writing.{going}
 use Rattle.builder.specs.declared.Core.{Core}
 use Rattle.builder.specs.declared.Depth.{Depth}
 use Rattle.builder.specs.declared.Depth.the-variants.{Dead, Live}

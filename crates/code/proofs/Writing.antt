@@ -6,7 +6,7 @@ use mathlib.Core.List.{List, [], _∷_, _++_, append-nil}
 use Prim.Native.Nat.{ℕ, _<_, _≤_}
 use native.Mathlib.Omega.{arith}
 use lib.Dec.{leb, eqb}
-use lib.ListN.{length, getD, drop}
+use lib.ListN.{length, drop}
 use borrow.Author.Tests.{le-leb, lt-leb, eq-eqb, ne-eqb, leb-true, eqb-true}
 use Rattle.base.proofs.Bools.{clash}
 use Rattle.op.specs.Shapes.{shapeNumber, shapeOf, operandShape, sizeOf}
@@ -14,10 +14,10 @@ use Rattle.op.specs.declared.Operand.{Operand}
 use Rattle.op.specs.declared.Refusal.{Refusal}
 use Rattle.op.specs.declared.Refusal.the-variants.{UnknownOpcode, WrongShape, TooManyKeywords, Full}
 use Rattle.op.specs.declared.Shape.{Shape}
-use Rattle.op.specs.declared.Shape.the-variants as S
 use Rattle.op.specs.declared.Shaped.{Shaped}
 use Rattle.op.specs.declared.Shaped.the-variants as P
 use Rattle.op.specs.declared.Table.the-variants.{Code}
+use Rattle.op.proofs.Shaping.{same-shape}
 use Rattle.code.specs.declared.Step.the-variants.{Instr}
 use Rattle.code.specs.declared.Written.{Written}
 use Rattle.code.specs.declared.Written.the-variants.{Size, Refused}
@@ -27,28 +27,6 @@ use Rattle.code.specs.Encode.{operandBytes, encode, writtenIf, writtenBy
 use Rattle.code.specs.Encode.{Formed}
 use Rattle.code.specs.Inner.{Writable}
 use Rattle.code.proofs.Inverse.{length-encode, decode-encode}
-
--- a shape's number says which it is
-shape-at : ℕ → Shape
-shape-at n = getD (S.None ∷ S.U8 ∷ S.I8 ∷ S.U16 ∷ S.Offset ∷ S.U8U8 ∷ S.U16U8 ∷ S.U16U16 ∷ S.U16U8U8 ∷ S.CallKw ∷ S.CallAttrKw ∷ []) n S.U16U16U8
-
-shape-back : (s : Shape) → shape-at (shapeNumber s) ≡ s
-unfolding shape-at
-shape-back S.None = refl
-shape-back S.U8 = refl
-shape-back S.I8 = refl
-shape-back S.U16 = refl
-shape-back S.Offset = refl
-shape-back S.U8U8 = refl
-shape-back S.U16U8 = refl
-shape-back S.U16U16 = refl
-shape-back S.U16U8U8 = refl
-shape-back S.CallKw = refl
-shape-back S.CallAttrKw = refl
-shape-back S.U16U16U8 = refl
-
-pub same-shape : (s t : Shape) → shapeNumber s ≡ shapeNumber t → s ≡ t
-same-shape s t e = sym (shape-back s) ∙ ap shape-at e ∙ shape-back t
 
 module _ (k : ℕ) (o : Operand) (n room : ℕ) where
   pub written-unknown : (r : Refusal) → shapeOf k ≡ P.Refused r → Refused UnknownOpcode ≡ writtenOf k o n room

@@ -1,11 +1,12 @@
--- The lower two digits of a product of two numbers of two digits each, in any base P: what counts P * P times is left out.
+-- The lower two digits of a product of two numbers of two digits each, in any base P: what counts P * P times is
+-- left out.
 -- Assumes nothing.
 use mathlib.Core.Path.{_≡_, refl, sym, ap, _∙_}
 use Prim.Native.Nat.{ℕ, _+_, _*_, _/_, _%_, _^_, _<_}
-use native.Mathlib.Nat.{add-assoc, add-comm, add-left-comm, mul-assoc, mul-comm, mul-left-comm, mul-add, add-mul, add-mod-mod, mod-add-mod, add-mul-mod-self-right}
+use native.Mathlib.Nat.{add-assoc, add-comm, add-left-comm, mul-assoc, mul-comm, mul-left-comm, mul-add, add-mul}
+use native.Mathlib.Nat.{add-mod-mod, mod-add-mod, add-mul-mod-self-right, lt-of-le-of-lt, mul-le-mul-left, le-of-lt}
 use lib.Bits.{bitAnd, and-mask, mask-lt}
 use lib.Pow.{split, shr-lt, shl-lt}
-use native.Mathlib.Nat.{lt-of-le-of-lt, mul-le-mul-left, le-of-lt}
 use mir.Syntax.{w64}
 use mir.Val.{Fits}
 use mir.Facts.{fits-bits}
@@ -13,7 +14,8 @@ use Rattle.fingerprint.specs.Fnv.{wrapped}
 
 by-digits : (P a₀ a₁ b₀ b₁ : ℕ)
     → (a₁ * P + a₀) * (b₁ * P + b₀) ≡ a₀ * b₀ + a₁ * b₀ * P + a₀ * b₁ * P + a₁ * b₁ * (P * P)
-by-digits P a₀ a₁ b₀ b₁ = simp (mul-add, add-mul, mul-assoc, mul-comm, mul-left-comm, add-assoc, add-comm, add-left-comm) refl
+by-digits P a₀ a₁ b₀ b₁ =
+    simp (mul-add, add-mul, mul-assoc, mul-comm, mul-left-comm, add-assoc, add-comm, add-left-comm) refl
 
 -- a sum of three, of which the last two and the sum of the first two are cut to the modulus first
 cut-sum : (x y z m : ℕ) → ((x + y % m) % m + z % m) % m ≡ (x + y + z) % m

@@ -1,25 +1,25 @@
--- The fingerprint of the opcode table: op.rs, `opcode_fingerprint`.
+-- The fingerprint of an opcode table: op.rs, `opcode_fingerprint`.
 -- Assumes nothing.
 use mathlib.Core.List.{List, [], _∷_, _++_}
-use Prim.Native.Nat.{ℕ, zero, suc}
-use Rattle.op.specs.Names.{nameOf}
-use Rattle.op.specs.Opcodes.{lastOpcode}
-use Rattle.op.specs.Shapes.{shapeNo}
+use Prim.Native.Nat.{ℕ, suc}
+use Rattle.op.specs.Names.{nameIn}
+use Rattle.op.specs.Opcodes.{Row, table}
+use Rattle.op.specs.Shapes.{shapeIn, shapeNumber}
 use Rattle.fingerprint.specs.Fnv.{fnv1aOf}
 
 -- R82, "its byte, its name as in op.rs, a zero byte and its shape number"
-abbrev pub bytesBy : ℕ → List ℕ → List ℕ
-bytesBy k name = k ∷ (name ++ (0 ∷ shapeNo k ∷ []))
+abbrev pub bytesBy : (k : ℕ) (name : List ℕ) (shape : ℕ) → List ℕ
+bytesBy k name shape = k ∷ (name ++ (0 ∷ shape ∷ []))
 
--- of n opcodes from k on
-abbrev pub bytesFrom : (k n : ℕ) → List ℕ
-bytesFrom k zero = []
-bytesFrom k (suc n) = bytesBy k (nameOf k) ++ bytesFrom (suc k) n
+-- of the rows of a table, the first of which is opcode k's
+abbrev pub bytesFrom : ℕ → List Row → List ℕ
+bytesFrom k [] = []
+bytesFrom k (r ∷ rs) = bytesBy k (nameIn r) (shapeNumber (shapeIn r)) ++ bytesFrom (suc k) rs
 
 -- R82, "for each opcode from 0 upwards"
-unfoldable pub tableBytes : List ℕ
-tableBytes = bytesFrom 0 (suc lastOpcode)
+unfoldable pub tableBytes : List Row → List ℕ
+tableBytes rows = bytesFrom 0 rows
 
--- R82, the hash of them all
+-- R82, the hash of them all, for the table of op.rs
 unfoldable pub fingerprint : ℕ
-fingerprint = fnv1aOf tableBytes
+fingerprint = fnv1aOf (tableBytes table)

@@ -2,6 +2,7 @@
 // to both.
 ghost use mathlib.Core.Path.{_≡_};
 ghost use Rattle.op.specs.Names.{nameBy};
+ghost use Rattle.op.specs.Shapes.{shapeNo};
 ghost use Rattle.fingerprint.specs.Fnv.{wrapped, mixed, hashFrom, fnv1aOf};
 ghost use Rattle.fingerprint.specs.Table.{bytesBy, fingerprint};
 use op::names;
@@ -55,7 +56,7 @@ pub fn fnv1a(bytes: &[u8]) -> u64
 
 // The hash with what the table has of an opcode: its byte, its name in the lent text, a zero byte, its shape's number.
 fn opcode_on(hash: u64, opcode: u8, texts: &[u8], starts: &[usize]) -> u64
-    ensures { λ r. ⌜ r ≡ hashFrom hash (bytesBy opcode (nameBy (now (texts .entry)) (now (starts .entry)) opcode)) ⌝ }
+    ensures { λ r. ⌜ r ≡ hashFrom hash (bytesBy opcode (nameBy (now (texts .entry)) (now (starts .entry)) opcode) (shapeNo opcode)) ⌝ }
 {
     let name = names::of_opcode(opcode, texts, starts);
     let named = hash_on(mix(hash, opcode), name);

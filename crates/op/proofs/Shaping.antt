@@ -40,6 +40,10 @@ shape-at CallKw = refl
 shape-at CallAttrKw = refl
 shape-at U16U16U8 = refl
 
+-- a shape's number says which it is
+pub same-shape : (s t : Shape) → shapeNumber s ≡ shapeNumber t → s ≡ t
+same-shape s t e = let same : Is s ≡ Is t = sym (shape-at s) ∙ ap shapeAt e ∙ shape-at t in cc
+
 -- an opcode's shape is that of its number
 pub by-number : (k : ℕ) → shapeAt (shapeNo k) ≡ shapeOf k
 unfolding shapeNo shapeOf

@@ -1,15 +1,13 @@
--- `fingerprint::opcode_fingerprint` meets its contract: the loop's invariant: what the table has from the opcode on, hashed
--- on, gives the fingerprint.
+-- `fingerprint::opcode_fingerprint` meets its contract: the loop's invariant: what the table has from the opcode on,
+-- hashed on, gives the fingerprint.
 -- Assumes nothing.
-use mathlib.Core.Path.{_≡_, refl, sym, ap, ap₂, _∙_}
-use mathlib.Core.List.{List}
+use mathlib.Core.Path.{_≡_, refl, sym, ap, _∙_}
 use Prim.Native.Nat.{ℕ, suc, _+_, _-_, _≤_}
 use native.Mathlib.Omega.{arith}
 use borrow.Author.Needs.{needs}
-use Rattle.op.specs.Names.{nameBy}
 use Rattle.op.specs.Opcodes.{lastOpcode}
 use Rattle.fingerprint.specs.Fnv.{hashFrom, fnv1aOf}
-use Rattle.fingerprint.specs.Table.{bytesBy, tableBytes, fingerprint}
+use Rattle.fingerprint.specs.Table.{tableBytes, fingerprint}
 use Rattle.fingerprint.proofs.Tabled.{from, hash-opcode, hash-last}
 use Rattle.fingerprint.proofs.opcode_fingerprint.Statement.{statement}
 use Rattle.fingerprint.proofs.opcode_fingerprint.Tie as tie
@@ -50,13 +48,12 @@ loop-again : tie.Need-loop-again Inv-loop μ-loop
 loop-again c =
     let at-loop = c .before .before .before .before in
     let after-starts = at-loop .before in
-    let k = at-loop .loop .opcode in
-    let hash = at-loop .loop .hash in (
+    let after-text = after-starts .before in
+    let k = at-loop .loop .opcode in (
       omega arith,
-      ap (λ (h : ℕ). hashFrom h (from (k + 1))) (c .opcode-on .ensures
-          ∙ ap₂ (λ (texts starts : List ℕ). hashFrom hash (bytesBy k (nameBy texts starts k)))
-          (after-starts .before .text .ensures) (after-starts .starts .ensures))
-          ∙ hash-opcode hash k (omega arith) ∙ at-loop .loop .inv .1,
+      ap (λ (h : ℕ). hashFrom h (from (k + 1))) (c .opcode-on .ensures)
+          ∙ hash-opcode (at-loop .loop .hash) k _ _ (after-text .text .ensures) (after-starts .starts .ensures)
+          (omega arith) ∙ at-loop .loop .inv .1,
     )
 
 returns : tie.Need-returns Inv-loop μ-loop

@@ -1,7 +1,6 @@
 -- `fingerprint::opcode_on` meets its contract: the bytes of an opcode, part by part.
 -- Assumes nothing.
 use mathlib.Core.Path.{ap, ap₂, _∙_}
-use mathlib.Core.List.{List}
 use Prim.Native.Nat.{ℕ}
 use borrow.Author.Needs.{needs}
 use Rattle.fingerprint.specs.Fnv.{mixed, hashFrom}
@@ -35,10 +34,11 @@ returns c =
     let after-byte = after-name .before in
     let after-of-opcode = after-byte .before in
     let start = after-of-opcode .before .before .before in
+    let named = after-name .hash-on .ensures
+    ∙ ap₂ hashFrom (after-byte .mix .ensures) (after-of-opcode .of-opcode .ensures) in
     c .mix3 .ensures
-    ∙ ap₂ mixed (after-zero .mix2 .ensures ∙ ap (λ (h : ℕ). mixed h 0) (after-name .hash-on .ensures
-    ∙ ap₂ hashFrom (after-byte .mix .ensures) (after-of-opcode .of-opcode .ensures))) (after-shape .shape-number .ensures)
-    ∙ hash-parts (start .args .hash) (start .args .opcode) _
+    ∙ ap₂ mixed (after-zero .mix2 .ensures ∙ ap (λ (h : ℕ). mixed h 0) named) (after-shape .shape-number .ensures)
+    ∙ hash-parts (start .args .hash) (start .args .opcode) _ _
 
 pub opcode-on-spec : {M : Type 1} → statement M
 opcode-on-spec =

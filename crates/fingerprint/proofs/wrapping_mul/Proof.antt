@@ -1,6 +1,6 @@
 -- `fingerprint::wrapping_mul` meets its contract: the lower two digits of the product in base 2^32.
 -- Assumes nothing.
-use mathlib.Core.Path.{_≡_, ap, _∙_}
+use mathlib.Core.Path.{ap, _∙_}
 use Prim.Native.Nat.{ℕ, _+_, _*_, _%_, _^_}
 use borrow.Author.Needs.{needs}
 use Rattle.fingerprint.proofs.Wrapping.{low, high, product-fits, low-fits, high-fits, halves-law}
@@ -29,7 +29,8 @@ returns c =
     let a = start .args .a in
     let b = start .args .b in
     c .wrapping-add-u642 .ensures
-    ∙ ap (λ (by-low : ℕ). (by-low + low a * high b * 2 ^ 32 % 2 ^ 64) % 2 ^ 64) (after-by-low .wrapping-add-u64 .ensures)
+    ∙ ap (λ (by-low : ℕ). (by-low + low a * high b * 2 ^ 32 % 2 ^ 64) % 2 ^ 64)
+    (after-by-low .wrapping-add-u64 .ensures)
     ∙ halves-law a b
 
 pub wrapping-mul-spec : {M : Type 1} → statement M
