@@ -1,6 +1,8 @@
 // What C and Rust call: the opcode rules, the decoder's step, the instruction writer, the depth checker and the
 // lookups, on numbers and slices of numbers. include/tokenfinch.h declares these functions and says in words what
 // they promise here.
+#![tactic(auto)]
+
 ghost use Rattle.std.specs.Prelude.{◌≡◌, length, drop};
 ghost use Rattle.op.specs.Opcodes.{last_opcode};
 ghost use Rattle.op.specs.Shapes.{shape_of};
@@ -39,21 +41,21 @@ mod steps;
 mod tables;
 
 // An operand given as numbers, or that there is none.
-#[derive(Drop)]
+#[derive(Clone, Copy)]
 pub enum Given {
     Is(Operand),
     Nothing,
 }
 
 // A record given as numbers, or that there is none.
-#[derive(Drop)]
+#[derive(Clone, Copy)]
 pub enum Entered {
     Is(ExceptionEntry),
     Nothing,
 }
 
 // An operand's values in byte order, without the keyword count.
-#[derive(Drop)]
+#[derive(Clone, Copy)]
 pub struct Values {
     pub a: u16,
     pub b: u16,

@@ -1,5 +1,7 @@
 // The builder: CodeBuilder of pydantic/monty's builder.rs. The state goes in and comes out by value, the tables are
 // lent, and each call decides before it writes, so that a refusal changes neither.
+#![tactic(auto)]
+
 use code::{CodeRange, Focus};
 use op::Refusal;
 
@@ -27,21 +29,21 @@ mod state;
 mod tables;
 
 // The operand stack's depth before the next instruction; none in dead code.
-#[derive(Drop)]
+#[derive(Clone, Copy)]
 pub enum Depth {
     Dead,
     Live(u16),
 }
 
 // The source location of the instructions to come.
-#[derive(Drop)]
+#[derive(Clone, Copy)]
 pub enum Location {
     Unset,
     Set(CodeRange, Focus),
 }
 
 // What emission reads and changes: the used rows of code, locations and marks, and the depth.
-#[derive(Drop)]
+#[derive(Clone, Copy)]
 pub struct Core {
     pub code: usize,
     pub locations: usize,
@@ -50,7 +52,7 @@ pub struct Core {
 }
 
 // The state: the used rows of every table, the depth and the location. Nothing of it is trusted.
-#[derive(Drop)]
+#[derive(Clone, Copy)]
 pub struct Builder {
     pub core: Core,
     pub location: Location,
@@ -61,40 +63,40 @@ pub struct Builder {
 }
 
 // A forward jump that waits for `patch_jump`: a row of the marks.
-#[derive(Drop)]
+#[derive(Clone, Copy)]
 pub enum JumpLabel {
     Dead,
     Row(usize),
 }
 
 // A place to jump back to: a row of the marks.
-#[derive(Drop)]
+#[derive(Clone, Copy)]
 pub enum JumpTarget {
     Dead,
     Row(usize),
 }
 
 // The state after a call, or why there is none.
-#[derive(Drop)]
+#[derive(Clone, Copy)]
 pub enum Answer {
     Accepted(Builder),
     Refused(Refusal),
 }
 
-#[derive(Drop)]
+#[derive(Clone, Copy)]
 pub enum Jumped {
     Made(Builder, JumpLabel),
     Refused(Refusal),
 }
 
-#[derive(Drop)]
+#[derive(Clone, Copy)]
 pub enum Targeted {
     Made(Builder, JumpTarget),
     Refused(Refusal),
 }
 
 // The state after a constant was added, and its index.
-#[derive(Drop)]
+#[derive(Clone, Copy)]
 pub enum Added {
     Made(Builder, u16),
     Refused(Refusal),

@@ -9,7 +9,7 @@ use code::{CODE_LIMIT, JUMP_SIZE, MARK_CELLS, WORD_MAX};
 use op::{Refusal, Table};
 
 // A used mark with its offset and depth. Absent: the row is not used, or of no kind.
-#[derive(Drop)]
+#[derive(Clone, Copy)]
 pub enum Mark {
     Absent,
     Open(u32, u32),

@@ -10,7 +10,7 @@ use code::signs;
 use op::{Operand, opcodes};
 
 // The opcode, the name to be checked, 0 without one, and the operand.
-#[derive(Drop)]
+#[derive(Clone, Copy)]
 pub enum Instruction {
     Is(u8, u32, Operand),
     Nothing,

@@ -11,7 +11,7 @@ use code::MARK_CELLS;
 use op::Refusal;
 
 // What a patch is to do: nothing, of a label that was made in dead code; refuse; or write.
-#[derive(Drop)]
+#[derive(Clone, Copy)]
 pub enum PatchPlan {
     Idle,
     Refuse(Refusal),

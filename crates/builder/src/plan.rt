@@ -10,7 +10,7 @@ use code::{CODE_LIMIT, LOCATION_CELLS, MARK_CELLS, WORD_MAX, decoder};
 use op::{After, Operand, Refusal, Table, depths, effects, opcodes, shapes};
 
 // How an emitting call begins: in dead code, refused, or live at a depth.
-#[derive(Drop)]
+#[derive(Clone, Copy)]
 pub enum Entered {
     Dead,
     Refused(Refusal),
@@ -18,7 +18,7 @@ pub enum Entered {
 }
 
 // What an emitting call is to do: nothing, in dead code; refuse; or write.
-#[derive(Drop)]
+#[derive(Clone, Copy)]
 pub enum Plan {
     Idle,
     Refuse(Refusal),

@@ -6,7 +6,7 @@ use crate::{Answer, Builder, Core};
 use op::Refusal;
 
 // The core after a call, or why there is none.
-#[derive(Drop)]
+#[derive(Clone, Copy)]
 pub enum CoreAnswer {
     Accepted(Core),
     Refused(Refusal),

@@ -1,6 +1,8 @@
 // What C calls to build: the builder's calls, on numbers and slices of numbers. The state is in 17 lent cells, and no
 // call trusts them. Cells that hold no state are refused by 19, an argument that the builder's own call cannot be given
 // by 2, and then the call answers as the builder's does. A refusal changes no cell.
+#![tactic(auto)]
+
 ghost use Rattle.builder.specs.Answers.{answer_told};
 ghost use Rattle.calls.specs.Exports.{AddedLeaves, EmitLeaves, JumpLeaves, KeptLeaves, Leaves, PatchLeaves};
 ghost use Rattle.calls.specs.Exports.{TargetLeaves, add_const_in, add_exception_in, build_in, current_jump_target_in};
@@ -28,38 +30,38 @@ pub const DEAD_DEPTH: u64 = 65536;
 pub const DEAD_ROW: u64 = 0xFFFF_FFFF_FFFF_FFFF;
 
 // What numbers hold, or that they hold none.
-#[derive(Drop)]
+#[derive(Clone, Copy)]
 pub enum DepthIn {
     Is(Depth),
     Nothing,
 }
 
-#[derive(Drop)]
+#[derive(Clone, Copy)]
 pub enum FocusIn {
     Is(Focus),
     Nothing,
 }
 
-#[derive(Drop)]
+#[derive(Clone, Copy)]
 pub enum LocationIn {
     Is(Location),
     Nothing,
 }
 
-#[derive(Drop)]
+#[derive(Clone, Copy)]
 pub enum KindIn {
     Is(HandlerKind),
     Nothing,
 }
 
-#[derive(Drop)]
+#[derive(Clone, Copy)]
 pub enum State {
     Is(Builder),
     Nothing,
 }
 
 // The cells of a location.
-#[derive(Drop)]
+#[derive(Clone, Copy)]
 pub struct Place {
     pub set: u64,
     pub start: u64,

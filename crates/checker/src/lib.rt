@@ -1,4 +1,6 @@
 // The depth checker: whether depths can be given to the instructions of some code, and the smallest such assignment.
+#![tactic(auto)]
+
 ghost use Rattle.std.specs.Prelude.{◌≡◌};
 ghost use Rattle.op.specs.Opcodes.{last_opcode};
 ghost use Rattle.checker.specs.Promise.{Promise, built_sound, BuiltPromise};
@@ -15,7 +17,7 @@ mod visits;
 mod walks;
 
 // An assignment of depths; the depths themselves are in the depth slice.
-#[derive(Drop)]
+#[derive(Clone, Copy)]
 pub struct Assignment {
     // how many instructions have a depth
     pub count: usize,
@@ -24,7 +26,7 @@ pub struct Assignment {
 }
 
 // What a check answers.
-#[derive(Drop)]
+#[derive(Clone, Copy)]
 pub enum Checked {
     Accepted(Assignment),
     // 10, 21, 1 or 22 with the offset, 20, 23; before them 19, of a builder's counts
@@ -32,7 +34,7 @@ pub enum Checked {
 }
 
 // Why no assignment exists. Each depth named is one that the instructions lead to from a start.
-#[derive(Drop)]
+#[derive(Clone, Copy)]
 pub enum Reason {
     // a place that is brought two depths
     TwoDepths { place: usize, one: u32, other: u32 },
@@ -45,7 +47,7 @@ pub enum Reason {
 }
 
 // What a check answers that says why, where no assignment exists.
-#[derive(Drop)]
+#[derive(Clone, Copy)]
 pub enum Explained {
     Accepted(Assignment),
     // 10, 21, 1 or 22 with the offset, 20
@@ -55,14 +57,14 @@ pub enum Explained {
 }
 
 // What a walk over all of the code meets.
-#[derive(Drop)]
+#[derive(Clone, Copy)]
 pub enum Walk {
     Fault(Refusal),
     Whole,
 }
 
 // How work on the list of places went.
-#[derive(Drop)]
+#[derive(Clone, Copy)]
 pub enum Went {
     // on: how many places wait now, or how many were visited
     On(usize),
@@ -70,7 +72,7 @@ pub enum Went {
 }
 
 // How the work on one place went.
-#[derive(Drop)]
+#[derive(Clone, Copy)]
 pub enum Passed {
     // so many places wait
     Rests(usize),
@@ -80,7 +82,7 @@ pub enum Passed {
 }
 
 // How the work on places one behind the other went.
-#[derive(Drop)]
+#[derive(Clone, Copy)]
 pub enum Ran {
     // how many places wait, and how many were visited
     On { top: usize, taken: usize },

@@ -1,15 +1,12 @@
 -- Counting the instructions of a code: what a loop knows after n of them.
 -- Assumes nothing.
-use mathlib.Core.Path.{◌≡◌, sym, ap, ◌∙◌}
+use mathlib.Core.Path.{◌≡◌, refl, sym, ap, ◌∙◌}
 use mathlib.Core.List.{List, [], ◌∷◌}
-use mathlib.Core.Logic.{⊎_elim}
 use mathlib.Core.Option.{Option, some, none}
 use Prim.Native.Nat.{ℕ, suc, ◌+◌, ◌≤◌}
 use native.Mathlib.Nat.{zero-add, add-zero}
 use native.Mathlib.Omega.{arith}
 use lib.ListN.{length, drop}
-use denote.Enum.Declared.{tag_of}
-use types.Run.{OneOf}
 use Rattle.op.specs.declared.Operand.{Operand}
 use Rattle.op.specs.declared.Refusal.{Refusal}
 use Rattle.code.specs.declared.Count.{Count}
@@ -20,7 +17,6 @@ use Rattle.code.specs.Reading.{Read, stops_at, count_by, count_of}
 use Rattle.code.specs.Inner.{stopped}
 use Rattle.code.proofs.Decoding.{decoded_ends}
 use Rattle.code.proofs.Instructions.{read_from, reads_on, reads_end, reads_fault}
-use Rattle.code.specs.contracts.Step.{the_type}
 
 -- n instructions in front of what was read
 abbrev counted : ℕ → Read → Count
@@ -61,8 +57,8 @@ stop_here last s at n fault c e =
     ap (λ (m : ℕ). count_by m fault) (sym (add-zero n)) ∙ sym (c.so_far ∙ ap (counted n) e)
 
 -- at the end, or at a fault
-pub counting_stop : (last : ℕ) (s : List ℕ) (at n : ℕ) (t : Step) → OneOf (1 ∷ 2 ∷ []) (tag_of the_type t)
+pub counting_stop : (last : ℕ) (s : List ℕ) (at n : ℕ) (t : Step) → ((k : ℕ) (o : Operand) (z : ℕ) → t ≡ Instr k o z → ⊥)
     → Counting last s at n → decode last at (drop at s) ≡ t → stopped n t ≡ count_of last s
-counting_stop last s at n (Instr k o z) h c e = absurd (⊎_elim (λ q. omega arith) (λ q. omega arith) h)
+counting_stop last s at n (Instr k o z) h c e = absurd (h k o z refl)
 counting_stop last s at n End h c e = stop_here last s at n none c (reads_end last s at e)
 counting_stop last s at n (Refused r) h c e = stop_here last s at n (some r) c (reads_fault last s at r e)

@@ -1,6 +1,8 @@
 // Compiled code: the decoder's step and the writer of one instruction, which are each other's inverse, and the
 // lookups and records of code.rs of pydantic/monty. Its tables are lent as plain numbers, six to a row for locations
 // and handlers.
+#![tactic(auto)]
+
 use op::{Operand, Refusal};
 
 pub mod decoder;
@@ -38,7 +40,7 @@ pub const NO_DEPTH: u32 = 65536;
 pub const JUMP_SIZE: usize = 3;
 
 // What stands at an offset of the code.
-#[derive(Drop)]
+#[derive(Clone, Copy)]
 pub enum Step {
     // an instruction of `size` bytes, keyword names included
     Instr {
@@ -53,7 +55,7 @@ pub enum Step {
 }
 
 // Where a jump goes.
-#[derive(Drop)]
+#[derive(Clone, Copy)]
 pub enum Goal {
     // no jump
     Nowhere,
@@ -63,7 +65,7 @@ pub enum Goal {
 }
 
 // What is added to the depth, and what is taken away.
-#[derive(Drop)]
+#[derive(Clone, Copy)]
 pub struct Change {
     pub up: u32,
     pub down: u32,
@@ -71,7 +73,7 @@ pub struct Change {
 
 // How the instruction at an offset moves on. In this order each field begins a word of eight bytes, so that no copy of a
 // flow reads a word across two stores, for which a processor waits.
-#[derive(Drop)]
+#[derive(Clone, Copy)]
 pub struct Flow {
     pub size: usize,
     pub net: Change,
@@ -83,7 +85,7 @@ pub struct Flow {
 }
 
 // The same, or why there is none.
-#[derive(Drop)]
+#[derive(Clone, Copy)]
 pub enum Flowing {
     Op(Flow),
     End,
@@ -91,21 +93,21 @@ pub enum Flowing {
 }
 
 // How many instructions a code has, all of it or up to its first fault, which is 1 or 22.
-#[derive(Drop)]
+#[derive(Clone, Copy)]
 pub enum Count {
     Whole(usize),
     Stopped(usize, Refusal),
 }
 
 // How many bytes were written, or why none was.
-#[derive(Drop)]
+#[derive(Clone, Copy)]
 pub enum Written {
     Size(usize),
     Refused(Refusal),
 }
 
 // A row of the location table: its six numbers, unread.
-#[derive(Drop)]
+#[derive(Clone, Copy)]
 pub struct LocationRow {
     pub offset: u32,
     pub start: u32,
@@ -117,14 +119,14 @@ pub struct LocationRow {
 }
 
 // What `location_for_offset` finds: a row's number and the row.
-#[derive(Drop)]
+#[derive(Clone, Copy)]
 pub enum Located {
     Row(usize, LocationRow),
     Absent,
 }
 
 // A row of the exception table: its six numbers, unread.
-#[derive(Drop)]
+#[derive(Clone, Copy)]
 pub struct HandlerRow {
     pub start: u32,
     pub end: u32,
@@ -136,42 +138,42 @@ pub struct HandlerRow {
 }
 
 // What `find_exception_handler` finds: a row's number and the row.
-#[derive(Drop)]
+#[derive(Clone, Copy)]
 pub enum Handled {
     Row(usize, HandlerRow),
     Absent,
 }
 
 // A constant, unread.
-#[derive(Drop)]
+#[derive(Clone, Copy)]
 pub enum Constant {
     Value(u64),
     Absent,
 }
 
 // The name of a local slot, by its number.
-#[derive(Drop)]
+#[derive(Clone, Copy)]
 pub enum LocalName {
     Name(u32),
     Absent,
 }
 
 // A source range, unread.
-#[derive(Drop)]
+#[derive(Clone, Copy)]
 pub struct CodeRange {
     pub start: u32,
     pub end: u32,
 }
 
 // The part of a range that a traceback points at.
-#[derive(Drop)]
+#[derive(Clone, Copy)]
 pub enum Focus {
     Absent,
     Present(CodeRange),
 }
 
 // The source location of the instructions from an offset on.
-#[derive(Drop)]
+#[derive(Clone, Copy)]
 pub struct LocationEntry {
     pub bytecode_offset: u32,
     pub range: CodeRange,
@@ -179,7 +181,7 @@ pub struct LocationEntry {
 }
 
 // Whether a handler reads the exception value from the operand stack.
-#[derive(Drop)]
+#[derive(Clone, Copy)]
 pub enum HandlerKind {
     // `except` dispatch and `with`, which read it
     Consuming,
@@ -188,7 +190,7 @@ pub enum HandlerKind {
 }
 
 // A protected range of the code, `start` inclusive, `end` exclusive, and its handler.
-#[derive(Drop)]
+#[derive(Clone, Copy)]
 pub struct ExceptionEntry {
     pub start: u32,
     pub end: u32,
@@ -201,7 +203,7 @@ pub struct ExceptionEntry {
 }
 
 // What a lookup over records finds: an entry's number and the entry.
-#[derive(Drop)]
+#[derive(Clone, Copy)]
 pub enum Found {
     Row(usize, ExceptionEntry),
     Absent,

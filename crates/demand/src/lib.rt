@@ -1,1 +1,3 @@
 // Demand 3 over the real builder. No functions: definitions in specs/, the theorem in proofs/.
+
+#![tactic(auto)]

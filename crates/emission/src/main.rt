@@ -1,6 +1,8 @@
 // Emits ten million instructions for bench/ to measure, in rounds of one rule each: a constant, a small number, a sum, a store, a
 // load, a jump with its patch and a Nop over and over, then a call with keyword names, all with locations. Reads nothing; writes the last rule's size as two
 // bytes, so that no work can be left out.
+#![tactic(auto)]
+
 use builder::{Answer, Builder, Depth, Jumped};
 use code::{CodeRange, Focus};
 use libc::STDOUT_FILENO;

@@ -1,5 +1,7 @@
 // 64-bit FNV-1a, and the fingerprint of the opcode table, by which two installations tell whether an opcode means the same
 // to both.
+#![tactic(auto)]
+
 ghost use Rattle.std.specs.Prelude.{◌≡◌};
 ghost use Rattle.op.specs.Names.{name_by};
 ghost use Rattle.op.specs.Shapes.{shape_no};

@@ -1,5 +1,7 @@
 // Lists the code on standard input (R55, R56): reads it, makes its listing part by part (`text::listing::list`), and
 // writes each part.
+#![tactic(auto)]
+
 ghost use Rattle.std.specs.Prelude.{◌≡◌, true, List, [], ◌≤◌, length, take};
 ghost use Rattle.text.specs.Lines.{plain_lines};
 ghost use Rattle.listing.specs.Printing.{Turns};
@@ -8,7 +10,7 @@ use libc::{STDIN_FILENO, STDOUT_FILENO};
 use text::{Listed, listing};
 
 // A part that was printed: its length, the cursor behind it, whether there may be more, and whether nothing went wrong.
-#[derive(Drop)]
+#[derive(Clone, Copy)]
 struct Printed {
     length: usize,
     next: usize,

@@ -1,5 +1,7 @@
 // The opcode rules: op.rs of pydantic/monty, and CmpOperator of its expressions.rs. Opcodes are numbers, `opcodes` names
 // them; a number above the last one is refused by 1 wherever it is given.
+#![tactic(auto)]
+
 ghost use Rattle.std.specs.Prelude.{◌≡◌};
 
 pub mod depths;
@@ -13,7 +15,7 @@ mod rows;
 pub mod shapes;
 
 // A lent table, which refusal 18 names.
-#[derive(Drop)]
+#[derive(Clone, Copy)]
 pub enum Table {
     Code,
     Locations,
@@ -27,7 +29,7 @@ pub enum Table {
 }
 
 // A refusal: a case for each number of R27's table, in its order. `refusals::number` gives the number.
-#[derive(Drop)]
+#[derive(Clone, Copy)]
 pub enum Refusal {
     // 1: opcode above the last one, given
     UnknownOpcode,
@@ -86,7 +88,7 @@ pub enum Refusal {
 }
 
 // The layout of an opcode's operand bytes.
-#[derive(Drop)]
+#[derive(Clone, Copy)]
 pub enum Shape {
     None,
     U8,
@@ -103,14 +105,14 @@ pub enum Shape {
 }
 
 // An opcode's shape, or 1.
-#[derive(Drop)]
+#[derive(Clone, Copy)]
 pub enum Shaped {
     Is(Shape),
     Refused(Refusal),
 }
 
 // An operand, by value. Keyword names travel beside it; here is their count.
-#[derive(Drop)]
+#[derive(Clone, Copy)]
 pub enum Operand {
     None,
     U8(u8),
@@ -135,21 +137,21 @@ pub enum Operand {
 }
 
 // What an instruction does to the depth: adds `up` and takes `down` away; or 1, then 2 or 3.
-#[derive(Drop)]
+#[derive(Clone, Copy)]
 pub enum Effect {
     By { up: u32, down: u32 },
     Refused(Refusal),
 }
 
 // The same as the Rust's signed number.
-#[derive(Drop)]
+#[derive(Clone, Copy)]
 pub enum NetEffect {
     Net(i32),
     Refused(Refusal),
 }
 
 // What an opcode does to the depth whatever its operand, or that it goes by its operand; or 1.
-#[derive(Drop)]
+#[derive(Clone, Copy)]
 pub enum Fixed {
     By { up: u32, down: u32 },
     ByOperand,
@@ -157,7 +159,7 @@ pub enum Fixed {
 }
 
 // What the code behind an opcode is, or 1.
-#[derive(Drop)]
+#[derive(Clone, Copy)]
 pub enum Deadness {
     Dead,
     Live,
@@ -165,14 +167,14 @@ pub enum Deadness {
 }
 
 // The depth behind an instruction, or why there is none.
-#[derive(Drop)]
+#[derive(Clone, Copy)]
 pub enum After {
     Depth(u16),
     Refused(Refusal),
 }
 
 // The comparison operators of expressions.rs.
-#[derive(Drop)]
+#[derive(Clone, Copy)]
 pub enum CmpOperator {
     Eq,
     NotEq,
@@ -187,14 +189,14 @@ pub enum CmpOperator {
 }
 
 // What an assert compares by.
-#[derive(Drop)]
+#[derive(Clone, Copy)]
 pub enum Compared {
     Nothing,
     With(CmpOperator),
 }
 
 // What a flags byte of an assert means.
-#[derive(Drop)]
+#[derive(Clone, Copy)]
 pub enum AssertFlags {
     Valid(Compared),
     Invalid,

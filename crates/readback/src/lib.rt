@@ -1,4 +1,6 @@
 // A listing typed back in: the code whose listing a text is.
+#![tactic(auto)]
+
 ghost use Rattle.std.specs.Prelude.{◌≡◌, min, length, take};
 ghost use Rattle.text.specs.Listing.{header};
 ghost use Rattle.text.specs.Reading.{same as sameText};
@@ -22,7 +24,7 @@ const MOST: usize = 65536;
 const HEADER: [u8; 28] = *b"offset\tname\toperands\ttarget\n";
 
 // What became of a text: how many bytes its code has, or the first bad line and why it is one.
-#[derive(Drop)]
+#[derive(Clone, Copy)]
 pub enum Readback {
     Read(usize),
     Refused {

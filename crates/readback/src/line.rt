@@ -14,14 +14,14 @@ use code::{Written, writer};
 use op::{Operand, Refusal, Shaped, shapes};
 
 // How many bytes a line's instruction has, or why it has none.
-#[derive(Drop)]
+#[derive(Clone, Copy)]
 pub enum Line {
     Good(usize),
     Bad(Refusal),
 }
 
 // An instruction, whose keyword names stand in the cells from `names` to `count`.
-#[derive(Drop)]
+#[derive(Clone, Copy)]
 pub enum Told {
     Is {
         opcode: u8,

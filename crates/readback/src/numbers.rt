@@ -10,7 +10,7 @@ use words::Signed;
 pub const MOST: usize = 258;
 
 // One number, where some field can hold it: `Minus(n)` is -1 - n.
-#[derive(Drop)]
+#[derive(Clone, Copy)]
 pub enum Small {
     Plus(u16),
     Minus(u16),
@@ -19,7 +19,7 @@ pub enum Small {
 
 // The numbers of a column: the first `count` cells hold them, each from zero on; where `minus` is set the first is
 // -1 less its cell.
-#[derive(Drop)]
+#[derive(Clone, Copy)]
 pub enum Numbers {
     Are { count: usize, minus: bool },
     Not,

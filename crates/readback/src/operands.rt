@@ -7,7 +7,7 @@ use code::signs;
 use op::{Operand, Shape};
 
 // A number as a field may hold it, and whether it fits an unsigned word and an unsigned byte.
-#[derive(Drop)]
+#[derive(Clone, Copy)]
 pub struct Number {
     pub word: u16,
     pub byte: u8,
@@ -16,7 +16,7 @@ pub struct Number {
 }
 
 // An operand, and the cell from which on the keyword names stand, the last cells.
-#[derive(Drop)]
+#[derive(Clone, Copy)]
 pub enum Spoken {
     Is { operand: Operand, names: usize },
     Not,

@@ -12,7 +12,7 @@ use op::{Operand, Refusal};
 use words::{Number, Signed};
 
 // What a column says: the number that results, another, or nothing that can stand there.
-#[derive(Drop)]
+#[derive(Clone, Copy)]
 pub enum Met {
     Here,
     Elsewhere,
@@ -20,7 +20,7 @@ pub enum Met {
 }
 
 // A displacement: `Back(n)` is -1 - n.
-#[derive(Drop)]
+#[derive(Clone, Copy)]
 pub enum Aim {
     On(u16),
     Back(u16),
@@ -28,14 +28,14 @@ pub enum Aim {
 }
 
 // A whole number by its sign and its distance from zero.
-#[derive(Drop)]
+#[derive(Clone, Copy)]
 pub struct Goal {
     pub below: bool,
     pub size: u64,
 }
 
 // What is said of a line that is formed but for its offset and its target.
-#[derive(Drop)]
+#[derive(Clone, Copy)]
 pub enum Verdict {
     Fine,
     Bad(Refusal),

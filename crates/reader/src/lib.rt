@@ -1,4 +1,6 @@
 // An instruction reader, which holds the code and its place: thin over the decoder's step on a slice and a number.
+#![tactic(auto)]
+
 ghost use Rattle.std.specs.Prelude.{◌≡◌, length, drop};
 ghost use Rattle.op.specs.Opcodes.{last_opcode};
 ghost use Rattle.code.specs.Decode.{decode};
@@ -30,7 +32,7 @@ fn after(code: &[u8], at: usize, step: Step) -> usize
 }
 
 // A code and a place in it.
-#[derive(Drop)]
+#[derive(Clone, Copy)]
 pub struct InstructionReader<'a> {
     pub code: &'a [u8],
     pub at: usize,

@@ -1,4 +1,6 @@
 // The handler lookup of code.rs over a lent slice of records. `code::lookups` has it over flat rows.
+#![tactic(auto)]
+
 ghost use Rattle.std.specs.Prelude.{◌≡◌, List, [], ◌∷◌};
 ghost use Rattle.code.specs.Entries.{find_from};
 

@@ -1,5 +1,7 @@
 // The depth checker in two modes: the old one, and the strict one, which makes one pass more over the depths that the old
 // one has given. It stands on the promise of `checker` alone.
+#![tactic(auto)]
+
 ghost use Rattle.std.specs.Prelude.{◌≡◌, ◌<◌, length};
 ghost use Rattle.op.specs.Opcodes.{last_opcode};
 ghost use Rattle.strict.specs.Promise.{answer_of, Promise, Explains};
@@ -10,7 +12,7 @@ use code::{NO_DEPTH, lent};
 use op::{Refusal, needs};
 
 // What a check asks of an instruction's depth.
-#[derive(Drop)]
+#[derive(Clone, Copy)]
 pub enum Mode {
     // that its net effect stays at or above 0
     Net,
@@ -19,7 +21,7 @@ pub enum Mode {
 }
 
 // What a check answers that says why.
-#[derive(Drop)]
+#[derive(Clone, Copy)]
 pub enum Verdict {
     Accepted(Assignment),
     // 10, 21, 1 or 22 with the offset, 20

@@ -1,4 +1,6 @@
 // Texts in lent slices: numbers in decimal, and listings.
+#![tactic(auto)]
+
 use op::Refusal;
 
 mod lines;
@@ -9,14 +11,14 @@ mod row;
 mod write;
 
 // The place behind a text that was written, or 18.
-#[derive(Drop)]
+#[derive(Clone, Copy)]
 pub enum Placed {
     Behind(usize),
     Refused(Refusal),
 }
 
 // A part of a listing.
-#[derive(Drop)]
+#[derive(Clone, Copy)]
 pub enum Listed {
     // whole lines in the first `length` cells; the lines behind them are those from the cursor `next` on
     Part { length: usize, next: usize },

@@ -13,7 +13,7 @@ use reader::InstructionReader;
 
 // How far a listing is: the offset of the next line, the end of the text so far, whether there may be more lines, and
 // whether one was left for want of room.
-#[derive(Drop)]
+#[derive(Clone, Copy)]
 pub struct Progress {
     pub at: usize,
     pub to: usize,

@@ -1,1 +1,3 @@
 // Steps that proofs by hand share: no code.
+
+#![tactic(auto)]

@@ -1,5 +1,7 @@
 // Words as numbers. What a word says is `text`'s `natural`, `value` and `read_whole`, here in 64 bits; nothing
 // requires anything.
+#![tactic(auto)]
+
 ghost use Rattle.std.specs.Prelude.{◌+◌, ◌-◌, ◌*◌, leb, ◌≡◌};
 ghost use Rattle.base.specs.Tests.{all};
 ghost use Rattle.text.specs.Number.{value};
@@ -8,7 +10,7 @@ ghost use Rattle.text.specs.Reading.{read_whole};
 ghost use Rattle.words.specs.Numbers.{fitted, number_of, plus_of, minus_of, whole_of};
 
 // A natural number in decimal, with no zero in front.
-#[derive(Drop)]
+#[derive(Clone, Copy)]
 pub enum Number {
     Is(u64),
     // one, but not below 2^64
@@ -17,7 +19,7 @@ pub enum Number {
 }
 
 // A whole number in decimal: a minus sign stands in front of one below zero, and there is no -0.
-#[derive(Drop)]
+#[derive(Clone, Copy)]
 pub enum Signed {
     Plus(u64),
     Minus(u64),

@@ -1,0 +1,27 @@
+-- `code::flows::net_at` meets its contract: a fixed effect is the effect of any operand, the others go by two numbers.
+-- Assumes nothing.
+use mathlib.Core.Path.{sym, ap, ◌∙◌}
+use lib.ListN.{drop}
+use borrow.Author.Rules.{rules}
+use Rattle.code.specs.Flow.{change_of}
+use Rattle.code.proofs.Moving.{net_fixed, net_refused, net_numbers}
+use Rattle.code.proofs.flows.net_at.Goals as goal
+
+pub returns-in-By : goal.returns-in-By
+returns-in-By c =
+    let u = drop c.args.at c.args.code.now in
+    net_fixed c.args.opcode c.args.shape u c.requires.1 _ _
+    (sym c.fixed-fixed.ensures ∙ c.in-By.is)
+
+pub returns-in-ByOperand : goal.returns-in-ByOperand
+returns-in-ByOperand c =
+    let u = drop c.args.at c.args.code.now in
+    c.change_of.ensures ∙ ap change_of (c.by_numbers.ensures.0
+    ∙ net_numbers c.args.opcode c.args.shape u c.requires.1 _ _ c.former.ensures
+    c.last.ensures)
+
+pub returns-in-Refused : goal.returns-in-Refused
+returns-in-Refused c =
+    let u = drop c.args.at c.args.code.now in
+    net_refused c.args.opcode c.args.shape u c.requires.1 _
+    (sym c.fixed-fixed.ensures ∙ c.in-Refused.is)

@@ -1,0 +1,25 @@
+-- `code::steps::i8_step` meets its contract: the laws of `step_in`, one for each return; the size and the operand
+-- compute.
+-- Assumes nothing.
+use mathlib.Core.Path.{refl, ◌∙◌, ap}
+use borrow.Author.Rules.{rules}
+use mir.Syntax.{w8}
+use mir.Facts.{to_z-of_z}
+use Rattle.op.specs.Shapes.{size_of}
+use Rattle.op.specs.declared.Operand.TheVariants as O
+use Rattle.code.specs.Decode.{operand_in}
+use Rattle.code.proofs.Decoding.{step_cut, step_instr}
+use Rattle.code.proofs.steps.i8_step.Goals as goal
+
+pub returns-then-bytes-lt2 : goal.returns-then-bytes-lt2
+unfolding size_of
+returns-then-bytes-lt2 c =
+    step_cut c.args.at _ c.args.bytes.now 2 refl
+    c.if-bytes-lt2.true
+
+pub returns : goal.returns
+unfolding size_of operand_in
+returns c =
+    step_instr c.args.at _ c.args.bytes.now 2 refl _
+    (ap O.I8 (to_z-of_z {w = w8} (record { sfits = c.to_i8.type_inv }) ∙ c.to_i8.ensures))
+    c.if-bytes-lt2.false

@@ -1,0 +1,40 @@
+-- `code::steps::shaped_step` meets its contract: in each arm the shape is what the match told.
+-- Assumes nothing.
+use borrow.Author.Rules.{rules}
+use Rattle.code.proofs.steps.shaped_step.Goals as goal
+
+pub returns-in-None : goal.returns-in-None
+returns-in-None c = rw c.in-None.is c.none_step.ensures
+
+pub returns-in-U8 : goal.returns-in-U8
+returns-in-U8 c = rw c.in-U8.is c.u8_step.ensures
+
+pub returns-in-I8 : goal.returns-in-I8
+returns-in-I8 c = rw c.in-I8.is c.i8_step.ensures
+
+pub returns-in-U16 : goal.returns-in-U16
+returns-in-U16 c = rw c.in-U16.is c.u16_step.ensures
+
+pub returns-in-Offset : goal.returns-in-Offset
+returns-in-Offset c = rw c.in-Offset.is c.offset_step.ensures
+
+pub returns-in-U8U8 : goal.returns-in-U8U8
+returns-in-U8U8 c = rw c.in-U8U8.is c.u8_u8_step.ensures
+
+pub returns-in-U16U8 : goal.returns-in-U16U8
+returns-in-U16U8 c = rw c.in-U16U8.is c.u16_u8_step.ensures
+
+pub returns-in-U16U16 : goal.returns-in-U16U16
+returns-in-U16U16 c = rw c.in-U16U16.is c.u16_u16_step.ensures
+
+pub returns-in-U16U8U8 : goal.returns-in-U16U8U8
+returns-in-U16U8U8 c = rw c.in-U16U8U8.is c.u16_u8_u8_step.ensures
+
+pub returns-in-CallKw : goal.returns-in-CallKw
+returns-in-CallKw c = rw c.in-CallKw.is c.call_kw_step.ensures
+
+pub returns-in-CallAttrKw : goal.returns-in-CallAttrKw
+returns-in-CallAttrKw c = rw c.in-CallAttrKw.is c.call_attr_kw_step.ensures
+
+pub returns-in-U16U16U8 : goal.returns-in-U16U16U8
+returns-in-U16U16U8 c = rw c.in-U16U16U8.is c.u16_u16_u8_step.ensures

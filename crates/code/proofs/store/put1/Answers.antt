@@ -1,0 +1,9 @@
+-- `code::store::put1` meets its contract: stores in a row are one front.
+-- Assumes nothing.
+use mathlib.Core.List.{[], ◌∷◌}
+use borrow.Author.Rules.{rules}
+use Rattle.code.proofs.Stores.{sets_front}
+use Rattle.code.proofs.store.put1.Goals as goal
+
+pub returns : goal.returns
+returns c = let a = c.args in sets_front (a.a ∷ []) a.out.now c.requires

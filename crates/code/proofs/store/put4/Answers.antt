@@ -1,0 +1,17 @@
+-- `code::store::put4` meets its contract: stores in a row are one front.
+-- Assumes nothing.
+use mathlib.Core.List.{[], ◌∷◌}
+use native.Mathlib.Omega.{arith}
+use lib.ListN.{length-set}
+use borrow.Author.Rules.{rules}
+use Rattle.code.proofs.Stores.{sets_front}
+use Rattle.code.proofs.store.put4.Goals as goal
+
+pub bounds-out-1 : goal.bounds-out-1
+bounds-out-1 c = simp length-set (omega arith)
+
+pub bounds-out-2 : goal.bounds-out-2
+bounds-out-2 c = simp length-set (omega arith)
+
+pub returns : goal.returns
+returns c = let a = c.args in sets_front (a.a ∷ a.b ∷ a.c ∷ a.d ∷ []) a.out.now c.requires

@@ -1,0 +1,25 @@
+-- `code::writer::write_attr_call` meets its contract: the names behind the first 5 bytes are one front.
+-- Assumes nothing.
+use mathlib.Core.List.{[], ◌∷◌, ◌++◌}
+use Prim.Native.Nat.{◌+◌, ◌≤◌}
+use native.Mathlib.Omega.{arith}
+use lib.ListN.{length}
+use borrow.Author.Rules.{rules}
+use Rattle.code.specs.Bytes.{word_bytes, names_bytes}
+use Rattle.code.proofs.Inverse.{length_names}
+use Rattle.code.proofs.Stores.{lent, lent_behind}
+use Rattle.code.proofs.writer.write_attr_call.Goals as goal
+
+pub returns : goal.returns
+returns c =
+    let a = c.args in
+    let b = names_bytes a.names.now in
+    let h : 5 + length b ≤ length c.put5.new.out = omega (arith, length_names a.names.now) in
+    rw (
+      c.write_names.ensures,
+      lent 5 b c.put5.new.out h,
+      c.put5.ensures,
+      c.low.ensures,
+      c.high.ensures,
+    )
+    (lent_behind (a.opcode ∷ (word_bytes a.attribute ++ a.positional ∷ a.n ∷ [])) b a.out.now)

@@ -1,0 +1,25 @@
+-- `fingerprint::opcode_fingerprint` meets its contract: the loop's invariant: what the table has from the opcode on,
+-- hashed on, gives the fingerprint.
+-- Assumes nothing.
+use Rattle.std.proofs.Common.{◌≡◌, ℕ, suc, ◌+◌, ◌-◌, ◌≤◌, sym, refl, ap, ◌∙◌, arith, rules}
+use Rattle.op.specs.Opcodes.{last_opcode}
+use Rattle.fingerprint.specs.Fnv.{hash_from, fnv1a_of}
+use Rattle.fingerprint.specs.Table.{table_bytes, fingerprint}
+use Rattle.fingerprint.proofs.Tabled.{from, hash_opcode, hash_last}
+use Rattle.fingerprint.proofs.opcode_fingerprint.Goals as goal
+
+pub loop-opcode-init : goal.loop-opcode-init
+unfolding fingerprint table_bytes fnv1a_of
+loop-opcode-init c = (omega arith, refl)
+
+pub loop-opcode-preserved : goal.loop-opcode-preserved
+loop-opcode-preserved c =
+    let k = c.loop-opcode.opcode in (
+      omega arith,
+      ap (λ (h : ℕ). hash_from h (from (k + 1))) c.opcode_on-hash.ensures
+          ∙ hash_opcode c.loop-opcode.hash k _ _ c.text-texts.ensures c.starts-starts.ensures
+          (omega arith) ∙ c.loop-opcode.invariant.1,
+    )
+
+pub returns : goal.returns
+returns c = sym (hash_last c.loop-opcode.hash c.loop-opcode.opcode (omega arith)) ∙ c.loop-opcode.invariant.1

@@ -1,0 +1,12 @@
+-- `op::shapes::word` meets its contract: behind the row stands the word for no opcode.
+-- Assumes nothing.
+use mathlib.Core.Path.{sym}
+use native.Mathlib.Omega.{arith}
+use lib.ListN.{get_or-eq_default}
+use borrow.Author.Rules.{rules}
+use Rattle.base.proofs.Keys.{past}
+use Rattle.op.specs.Inner.{shape_words, no_shapes}
+use Rattle.op.proofs.shapes.word.Goals as goal
+
+pub returns-in_default : goal.returns-in_default
+returns-in_default c = sym (get_or-eq_default shape_words no_shapes (past 0 17 _ c.in_default.in_default-own.rest (omega arith)))
