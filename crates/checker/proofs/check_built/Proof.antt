@@ -6,7 +6,7 @@ use native.Mathlib.Omega.{arith}
 use lib.ListN.{length}
 use lib.Seq.{length-take-le}
 use borrow.Author.Rules.{rules}
-use borrow.Author.Tests.{not-false, not_true}
+use borrow.Author.Tests.{not-false, not-true}
 use Rattle.checker.specs.Promise.{built_sound}
 use Rattle.checker.proofs.Promising.{built_unsound, built_within, built_used}
 use Rattle.checker.proofs.check_built.Statement.{statement}
@@ -29,7 +29,7 @@ returns : tie.Need-returns
 returns c =
     let start = c.before.before.before.before.before.before in
     built_unsound start.args.built start.args.code.now start.args.starts.now start.args.depths.now
-    start.args.work.now (sym c.before.built_sound_lem.ensures ∙ not_true _ c.if1.true)
+    start.args.work.now (sym c.before.built_sound_lem.ensures ∙ not-true _ c.if1.true)
 
 mul-m : tie.Need-overflow-mul-m
 mul-m c =

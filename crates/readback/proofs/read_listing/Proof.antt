@@ -7,7 +7,7 @@ use Prim.Native.Nat.{ℕ, ◌+◌, ◌-◌, ◌≤◌}
 use native.Mathlib.Omega.{arith}
 use lib.ListN.{length, take, drop, length-append}
 use lib.Seq.{length-take-le, take-append-le}
-use borrow.Author.Tests.{not_true, not-false}
+use borrow.Author.Tests.{not-true, not-false}
 use borrow.Author.Rules.{rules}
 use Rattle.text.specs.Listing.{header}
 use Rattle.text.specs.Reading.{same}
@@ -70,7 +70,7 @@ returns : tie.Need-returns
 returns c =
     let start = c.before.before.before.before in
     reads_headless start.args.text.now start.args.code.now
-    (sym c.before.headed.ensures ∙ not_true _ c.if1.true)
+    (sym c.before.headed.ensures ∙ not-true _ c.if1.true)
 
 space-requires : tie.Need-space-requires
 space-requires c κs = search rules

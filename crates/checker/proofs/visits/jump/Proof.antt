@@ -1,7 +1,7 @@
 -- `checker::visits::jump` meets its contract: the mark, the landing, then what the target is asked.
 -- Assumes nothing.
 use mathlib.Core.Path.{sym, ◌∙◌}
-use borrow.Author.Tests.{not_true, not-false}
+use borrow.Author.Tests.{not-true, not-false}
 use Rattle.checker.proofs.Visiting.{jumped_astray, target_inside, jumped_out, jumped_on}
 use borrow.Author.Rules.{rules}
 use Rattle.checker.proofs.visits.jump.Statement.{statement}
@@ -18,7 +18,7 @@ returns c =
     let start = c.before.before.before.before.before in
     jumped_astray start.args.f start.args.cells.now start.args.work.now start.args.top
     start.args.at start.args.d start.requires.0 start.args.t start.requires.1
-    (sym c.before.marked.ensures ∙ not_true _ c.if1.true)
+    (sym c.before.marked.ensures ∙ not-true _ c.if1.true)
 
 land-requires : tie.Need-land-requires
 land-requires c κs = search rules

@@ -1,11 +1,11 @@
 -- `readback::operands::told` meets its contract: by the three tests.
 -- Assumes nothing.
-use borrow.Author.Tests.{eq-eqb, ne_eqb, le-leb, lt-leb, not_true, not-false}
+use borrow.Author.Tests.{eq-eqb, ne_eqb, le-leb, lt-leb, not-true, not-false}
 use Rattle.readback.proofs.operands.told.Statement.{statement}
 use Rattle.readback.proofs.operands.told.Tie as tie
 
 returns : tie.Need-returns
-returns c = simp (not_true c.before.args.fits c.if1.true)
+returns c = simp (not-true c.before.args.fits c.if1.true)
 
 returns-2 : tie.Need-returns-2
 returns-2 c =

@@ -1,6 +1,6 @@
 -- `readback::placing::goal_of` meets its contract: a law for each return.
 -- Assumes nothing.
-use borrow.Author.Tests.{not_true, not-false}
+use borrow.Author.Tests.{not-true, not-false}
 use borrow.Author.Rules.{rules}
 use Rattle.readback.proofs.Places.{goal_near, goal_far}
 use Rattle.readback.proofs.placing.goal_of.Statement.{statement}
@@ -13,7 +13,7 @@ add-t8 : tie.Need-overflow-add-t8
 add-t8 c = search rules
 
 returns : tie.Need-returns
-returns c = rw (not_true c.before.args.minus c.if1.true)
+returns c = rw (not-true c.before.args.minus c.if1.true)
 
 sub-t9 : tie.Need-overflow-sub-t9
 sub-t9 c = search rules

@@ -1,6 +1,6 @@
 -- `readback::placing::meets` meets its contract: by cases and tests.
 -- Assumes nothing.
-use borrow.Author.Tests.{eq-eqb, ne_eqb, not_true, not-false}
+use borrow.Author.Tests.{eq-eqb, ne_eqb, not-true, not-false}
 use borrow.Author.Rules.{rules}
 use Rattle.readback.specs.Lined.{met_of}
 use Rattle.readback.proofs.placing.meets.Statement.{statement}
@@ -29,7 +29,7 @@ unfolding met_of
 returns-3 c =
     let after_told2 = c.before.before in
     let start = after_told2.before.before in
-    simp (after_told2.told2.given.1, not_true start.args.below c.if3.true)
+    simp (after_told2.told2.given.1, not-true start.args.below c.if3.true)
 
 returns-4 : tie.Need-returns-4
 unfolding met_of

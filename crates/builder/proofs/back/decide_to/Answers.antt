@@ -1,0 +1,61 @@
+-- `builder::back::decide_to` meets its contract: how it begins is the line's, with the mark that was read.
+-- Assumes nothing.
+use Rattle.builder.proofs.JumpPlans.{at_mark, to_enters, to_unsound}
+use Rattle.builder.proofs.Plans.{enters_as, line_enters, marks_sound}
+use Rattle.builder.specs.declared.JumpTarget.TheVariants as T
+use Rattle.builder.specs.declared.plan.Entered.TheVariants as E
+use borrow.Author.Rules.{rules}
+use borrow.Author.Tests.{not-false, not-true}
+use mathlib.Core.Path.{◌∙◌, refl, sym}
+use Rattle.builder.specs.Marks.{mark_in}
+use Rattle.builder.specs.Back.{to_asked}
+use Rattle.builder.proofs.back.decide_to.Goals as goal
+
+pub returns-then-not-sound_with_marks : goal.returns-then-not-sound_with_marks
+returns-then-not-sound_with_marks c =
+    let a = c.args in
+    sym (to_unsound a.core a.location a.opcode (T.Row a.row)
+    (mark_in a.core.marks a.marks.now a.row) a.cl a.ll _
+    (sym c.sound_with_marks.ensures ∙ c.if-not-sound_with_marks.true))
+    ∙ at_mark a.core a.location a.opcode a.row a.cl a.ll a.marks.now _ refl
+
+pub mark_in-mark-requires : goal.mark_in-mark-requires
+mark_in-mark-requires c = (marks_sound _ _ _ _ (sym c.sound_with_marks.ensures ∙ c.if-not-sound_with_marks.false)).0
+
+pub decide_to_live-requires : goal.decide_to_live-requires
+decide_to_live-requires c = (marks_sound _ _ _ _ (sym c.sound_with_marks.ensures ∙ c.if-not-sound_with_marks.false)).1
+
+pub returns-in-Dead : goal.returns-in-Dead
+returns-in-Dead c =
+    let a = c.args in
+    let m = c.mark_in-mark.result in
+    sym (line_enters (to_asked a.core a.location a.opcode (T.Row a.row) m a.cl a.ll _) E.Dead
+    (to_enters a.core a.location a.opcode (T.Row a.row) m a.cl a.ll _ E.Dead
+    (sym c.sound_with_marks.ensures ∙ c.if-not-sound_with_marks.false)
+    (enters_as _ _ _ c.enter-entered.ensures c.mark_sound.ensures c.in-Dead.is)))
+    ∙ at_mark a.core a.location a.opcode a.row a.cl a.ll a.marks.now m
+    c.mark_in-mark.ensures
+
+pub returns-in-Refused : goal.returns-in-Refused
+returns-in-Refused c =
+    let a = c.args in
+    let m = c.mark_in-mark.result in
+    sym (line_enters (to_asked a.core a.location a.opcode (T.Row a.row) m a.cl a.ll _) (E.Refused _)
+    (to_enters a.core a.location a.opcode (T.Row a.row) m a.cl a.ll _ (E.Refused _)
+    (sym c.sound_with_marks.ensures ∙ c.if-not-sound_with_marks.false)
+    (enters_as _ _ _ c.enter-entered.ensures c.mark_sound.ensures
+    c.in-Refused.is)))
+    ∙ at_mark a.core a.location a.opcode a.row a.cl a.ll a.marks.now m
+    c.mark_in-mark.ensures
+
+pub returns-in-Live : goal.returns-in-Live
+returns-in-Live c =
+    let a = c.args in
+    let m = c.mark_in-mark.result in
+    c.decide_to_live.ensures a.row _
+    (to_enters a.core a.location a.opcode (T.Row a.row) m a.cl a.ll _ (E.Live _)
+    (sym c.sound_with_marks.ensures ∙ c.if-not-sound_with_marks.false)
+    (enters_as _ _ _ c.enter-entered.ensures c.mark_sound.ensures
+    c.in-Live.is))
+    ∙ at_mark a.core a.location a.opcode a.row a.cl a.ll a.marks.now m
+    c.mark_in-mark.ensures

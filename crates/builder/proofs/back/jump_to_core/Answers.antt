@@ -1,0 +1,51 @@
+-- `builder::back::jump_to_core` meets its contract: each plan is what the model says.
+-- Assumes nothing.
+use Rattle.builder.proofs.JumpPlans.{jumped_to, to_goes, to_writes}
+use Rattle.code.specs.Tables.{put}
+use Rattle.builder.specs.declared.JumpTarget.TheVariants as T
+use Rattle.builder.specs.declared.plan.Plan.TheVariants.{Go, Idle, Refuse}
+use Rattle.code.specs.Encode.{encode}
+use borrow.Author.Rules.{rules}
+use mathlib.Core.List.{[]}
+use mathlib.Core.Path.{◌∙◌, ap, sym}
+use native.Mathlib.Omega.{arith}
+use mir.Syntax.{w16}
+use mir.Facts.{to_z-of_z}
+use lib.IntN.{ℤ}
+use Rattle.op.specs.declared.Operand.TheVariants.{Offset}
+use Rattle.builder.proofs.back.jump_to_core.Goals as goal
+
+pub commit-rows-requires : goal.commit-rows-requires
+commit-rows-requires c =
+    let a = c.args in
+    to_writes a.core a.location a.opcode (T.Row a.row) _ _ a.marks.now _ _ _ _
+    (to_z-of_z {w = w16} (record { sfits = c.to_i16.type_inv }) ∙ c.to_i16.ensures)
+    (sym c.decide_to-plan.ensures ∙ c.in-Go.is)
+
+pub grown-requires : goal.grown-requires
+grown-requires c =
+    let a = c.args in
+    let g = to_goes a.core a.location a.opcode (T.Row a.row) _ _ a.marks.now _ _ _
+    (sym c.decide_to-plan.ensures ∙ c.in-Go.is) in
+    omega (arith, g.goes.limit, g.sound.limit)
+
+pub returns-in-Idle : goal.returns-in-Idle
+returns-in-Idle c =
+    let a = c.args in jumped_to a.core a.location a.opcode (T.Row a.row) a.code.now
+    a.locations.now a.marks.now Idle (sym c.decide_to-plan.ensures ∙ c.in-Idle.is)
+
+pub returns-in-Refuse : goal.returns-in-Refuse
+returns-in-Refuse c =
+    let a = c.args in jumped_to a.core a.location a.opcode (T.Row a.row) a.code.now
+    a.locations.now a.marks.now (Refuse c.in-Refuse.refusal)
+    (sym c.decide_to-plan.ensures ∙ c.in-Refuse.is)
+
+pub returns-in-Go : goal.returns-in-Go
+returns-in-Go c =
+    let a = c.args in
+    let w = c.commit-rows.ensures in
+    let e = w.bytes ∙ ap (λ (z : ℤ). put a.core.code (encode a.opcode (Offset z) []) a.code.now)
+    (to_z-of_z {w = w16} (record { sfits = c.to_i16.type_inv }) ∙ c.to_i16.ensures) in
+    rw (c.grown.ensures, w.count, e, w.rows)
+    (jumped_to a.core a.location a.opcode (T.Row a.row) a.code.now a.locations.now a.marks.now
+    (Go _ _ _) (sym c.decide_to-plan.ensures ∙ c.in-Go.is))

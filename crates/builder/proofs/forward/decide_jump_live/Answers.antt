@@ -1,0 +1,35 @@
+-- `builder::forward::decide_jump_live` meets its contract: the taken depth is op's, the rest as any emission.
+-- Assumes nothing.
+use Rattle.builder.proofs.JumpPlans.{ahead_live}
+use Rattle.builder.proofs.Plans.{lives_sound}
+use Rattle.builder.specs.declared.plan.Plan.{Plan}
+use Rattle.op.specs.declared.Table.TheVariants.{Locations, Marks}
+use Rattle.code.specs.Tables.{mark_cells, room}
+use Rattle.builder.specs.Locations.{row_fits}
+use Rattle.builder.specs.Plan.{emitting_of}
+use Rattle.builder.specs.Forward.{jump_asked, jump_plan_of}
+use Rattle.builder.specs.Inner.{also_row}
+use borrow.Author.Rules.{rules}
+use mathlib.Core.Path.{◌∙◌, ap, sym}
+use Rattle.builder.proofs.forward.decide_jump_live.Goals as goal
+
+pub decide_bytes-bytes-requires : goal.decide_bytes-bytes-requires
+decide_bytes-bytes-requires c =
+    let a = c.args in
+    let s = lives_sound (jump_asked a.core a.location a.opcode a.cl a.ll a.ml) c.requires in
+    (s.code, s.limit)
+
+pub returns-in-Refused : goal.returns-in-Refused
+unfolding jump_plan_of emitting_of
+returns-in-Refused c = simp (c.requires, sym c.taken-taken.ensures ∙ c.in-Refused.is)
+
+pub returns-in-Depth : goal.returns-in-Depth
+returns-in-Depth c =
+    let a = c.args in
+    c.also_row.ensures
+    ∙ ap (λ (p : Plan). also_row p (room mark_cells a.core.marks a.ml) Marks)
+    (c.also_location-plan.ensures
+    ∙ ap (λ (p : Plan). also_row p (row_fits a.location a.core.locations a.ll) Locations)
+    c.decide_bytes-bytes.ensures)
+    ∙ sym (ahead_live a.core a.location a.opcode a.cl a.ll a.ml a.d _ c.requires
+    (sym c.taken-taken.ensures ∙ c.in-Depth.is))

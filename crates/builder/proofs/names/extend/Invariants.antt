@@ -1,0 +1,13 @@
+use Prim.Native.Nat.{◌-◌, ◌≤◌}
+use Rattle.builder.proofs.Naming.{absent_more, absent_name}
+use Rattle.code.specs.Bytes.{front}
+use lib.ListN.{length, length-set, replicate}
+use mathlib.Core.Path.{◌≡◌, refl}
+use native.Mathlib.Omega.{arith}
+use Rattle.builder.proofs.names.extend.Given as goal
+
+abbrev pub invariant-loop-i : goal.invariant-loop-i
+invariant-loop-i l = (l.i ≤ l.absent) × ((length l.out ≡ length l.initial.out) × (l.out ≡ front (replicate l.i 0) l.initial.out))
+
+abbrev pub decreases-loop-i : goal.decreases-loop-i
+decreases-loop-i l = l.absent - l.i

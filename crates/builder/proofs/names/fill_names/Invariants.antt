@@ -1,0 +1,15 @@
+use Prim.Native.Nat.{◌-◌, ◌≤◌}
+use Rattle.builder.proofs.Naming.{map_all, map_more}
+use Rattle.builder.specs.Names.{name_cell}
+use Rattle.code.specs.Bytes.{front}
+use lib.ListN.{length, length-set, take}
+use mathlib.Core.List.{map}
+use mathlib.Core.Path.{◌∙◌, ◌≡◌, refl}
+use native.Mathlib.Omega.{arith}
+use Rattle.builder.proofs.names.fill_names.Given as goal
+
+abbrev pub invariant-loop-i : goal.invariant-loop-i
+invariant-loop-i l = (l.i ≤ length l.names) × ((length l.out ≡ length l.initial.out) × (l.out ≡ front (map name_cell (take l.i l.names)) l.initial.out))
+
+abbrev pub decreases-loop-i : goal.decreases-loop-i
+decreases-loop-i l = length l.names - l.i

@@ -1,0 +1,11 @@
+-- `builder::numbered::store` meets its contract: its test is the definition's.
+-- Assumes nothing.
+use borrow.Author.Tests.{le-leb, lt-leb}
+use borrow.Author.Rules.{rules}
+use Rattle.builder.proofs.numbered.store.Goals as goal
+
+pub returns-then-slot-le255 : goal.returns-then-slot-le255
+returns-then-slot-le255 c = simp (le-leb _ _ c.if-slot-le255.true)
+
+pub returns : goal.returns
+returns c = simp (lt-leb _ _ c.if-slot-le255.false)

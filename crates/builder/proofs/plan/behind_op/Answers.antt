@@ -1,0 +1,14 @@
+-- `builder::plan::behind_op` meets its contract: its test is the definition's.
+-- Assumes nothing.
+use Rattle.builder.specs.Plan.{behind}
+use borrow.Author.Rules.{rules}
+use mathlib.Core.Path.{◌∙◌, sym}
+use Rattle.builder.proofs.plan.behind_op.Goals as goal
+
+pub returns-then-is_dead_maker : goal.returns-then-is_dead_maker
+unfolding behind
+returns-then-is_dead_maker c = simp (sym c.is_dead_maker.ensures ∙ c.if-is_dead_maker.true)
+
+pub returns : goal.returns
+unfolding behind
+returns c = simp (sym c.is_dead_maker.ensures ∙ c.if-is_dead_maker.false)

@@ -1,0 +1,17 @@
+-- `builder::plan::sound` meets its contract: its tests are the definition's.
+-- Assumes nothing.
+use Rattle.builder.specs.Plan.{sound_of}
+use borrow.Author.Tests.{le-leb, lt-leb}
+use Rattle.builder.proofs.plan.sound.Goals as goal
+
+pub returns-then-cl-core : goal.returns-then-cl-core
+unfolding sound_of
+returns-then-cl-core c = simp (lt-leb _ _ c.if-cl-core.true)
+
+pub returns-then-core-gt-CODE_LIMIT : goal.returns-then-core-gt-CODE_LIMIT
+unfolding sound_of
+returns-then-core-gt-CODE_LIMIT c = simp (le-leb _ _ c.if-cl-core.false, lt-leb _ _ c.if-core-gt-CODE_LIMIT.true)
+
+pub returns : goal.returns
+unfolding sound_of
+returns c = simp (le-leb _ _ c.if-cl-core.false, le-leb _ _ c.if-core-gt-CODE_LIMIT.false)

@@ -1,0 +1,17 @@
+-- `builder::tables::row4` meets its contract: four stores from the front on.
+-- Assumes nothing.
+use Rattle.code.proofs.Stores.{sets_front}
+use borrow.Author.Rules.{rules}
+use lib.ListN.{length-set}
+use mathlib.Core.List.{[], ◌∷◌}
+use native.Mathlib.Omega.{arith}
+use Rattle.builder.proofs.tables.row4.Goals as goal
+
+pub bounds-out-1 : goal.bounds-out-1
+bounds-out-1 c = simp length-set (omega arith)
+
+pub bounds-out-2 : goal.bounds-out-2
+bounds-out-2 c = simp length-set (omega arith)
+
+pub returns : goal.returns
+returns c = let a = c.args in sets_front (a.a ∷ a.b ∷ a.c ∷ a.d ∷ []) a.out.now c.requires
