@@ -1,0 +1,32 @@
+-- `calls::reading::focus_in` meets its contract: its tests are the definition's.
+-- Assumes nothing.
+use borrow.Author.Tests.{le-leb, lt-leb, eq-eqb, ne_eqb}
+use borrow.Author.Rules.{rules}
+use Rattle.calls.proofs.reading.focus_in.Goals as goal
+
+pub returns-then-flag-eq0 : goal.returns-then-flag-eq0
+returns-then-flag-eq0 c = simp (eq-eqb _ _ c.if-flag-eq0.true)
+
+pub returns-then-flag-ne1 : goal.returns-then-flag-ne1
+returns-then-flag-ne1 c = simp (ne_eqb _ _ c.if-flag-eq0.false, ne_eqb _ _ c.if-flag-ne1.true)
+
+pub returns-then-start-gt-OFFSET_MAX : goal.returns-then-start-gt-OFFSET_MAX
+returns-then-start-gt-OFFSET_MAX c = simp (ne_eqb _ _ c.if-flag-eq0.false, eq-eqb _ _ c.if-flag-ne1.false, lt-leb _ _ c.if-start-gt-OFFSET_MAX.true)
+
+pub returns-then-end-gt-OFFSET_MAX : goal.returns-then-end-gt-OFFSET_MAX
+returns-then-end-gt-OFFSET_MAX c =
+    simp (
+      ne_eqb _ _ c.if-flag-eq0.false,
+      eq-eqb _ _ c.if-flag-ne1.false,
+      le-leb _ _ c.if-start-gt-OFFSET_MAX.false,
+      lt-leb _ _ c.if-end-gt-OFFSET_MAX.true,
+    )
+
+pub returns : goal.returns
+returns c =
+    simp (
+      ne_eqb _ _ c.if-flag-eq0.false,
+      eq-eqb _ _ c.if-flag-ne1.false,
+      le-leb _ _ c.if-start-gt-OFFSET_MAX.false,
+      le-leb _ _ c.if-end-gt-OFFSET_MAX.false,
+    )

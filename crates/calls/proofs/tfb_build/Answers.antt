@@ -1,0 +1,21 @@
+-- `calls::tfb_build` meets its contract: no state, or what the builder's call leaves.
+-- Assumes nothing.
+use mathlib.Core.Path.{sym, ◌∙◌}
+use Rattle.calls.specs.Exports.{build_in}
+use Rattle.calls.proofs.Held.{enough}
+use Rattle.calls.proofs.Leaving.{kept_none, kept_goes}
+use borrow.Author.Rules.{rules}
+use Rattle.calls.proofs.tfb_build.Goals as goal
+
+pub returns-in_default : goal.returns-in_default
+unfolding build_in
+returns-in_default c = kept_none _ _ _ _ _ (sym c.state_in-held.ensures ∙ c.in_default.is) c.answer.ensures
+
+pub leave-requires : goal.leave-requires
+leave-requires c = enough c.args.state.now _ (sym c.state_in-held.ensures ∙ c.in-Is.is)
+
+pub returns : goal.returns
+unfolding build_in
+returns c =
+    kept_goes _ _ _ _ _ _ _ _ _ (sym c.state_in-held.ensures ∙ c.in-Is.is)
+    c.build-answer.ensures c.leave.ensures

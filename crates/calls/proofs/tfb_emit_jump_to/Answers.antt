@@ -1,0 +1,24 @@
+-- `calls::tfb_emit_jump_to` meets its contract: no state, or what the builder's call leaves.
+-- Assumes nothing.
+use mathlib.Core.Path.{sym, ◌∙◌}
+use Rattle.calls.specs.Exports.{emit_jump_to_in}
+use Rattle.calls.proofs.Held.{enough}
+use Rattle.calls.proofs.Leaving.{emit_none, emit_goes}
+use borrow.Author.Rules.{rules}
+use Rattle.calls.proofs.tfb_emit_jump_to.Goals as goal
+
+pub returns-in_default : goal.returns-in_default
+unfolding emit_jump_to_in
+returns-in_default c =
+    emit_none _ _ _ _ _ _ (sym c.state_in-held.ensures ∙ c.in_default.is)
+    c.answer.ensures
+
+pub leave_core-requires : goal.leave_core-requires
+leave_core-requires c = enough c.args.state.now _ (sym c.state_in-held.ensures ∙ c.in-Is.is)
+
+pub returns : goal.returns
+unfolding emit_jump_to_in
+returns c =
+    emit_goes _ _ _ _ _ _ _ _ _ _ _ (sym c.state_in-held.ensures ∙ c.in-Is.is)
+    (rw c.target_in.ensures at c.emit_jump_to-answer.ensures)
+    c.leave_core.ensures

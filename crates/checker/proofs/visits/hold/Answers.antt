@@ -1,0 +1,20 @@
+-- `checker::visits::hold` meets its contract: one law of Visiting for each return, with any list.
+-- Assumes nothing.
+use Rattle.checker.proofs.Visiting.{asked_same, asked_clash, asked_fresh}
+use borrow.Author.Rules.{rules}
+use Rattle.checker.proofs.visits.hold.Goals as goal
+
+pub returns-then-was-d : goal.returns-then-was-d
+returns-then-was-d c =
+    λ w R. asked_same c.args.cells.now w c.args.top c.args.o c.args.d R c.requires.0
+    c.requires.1 c.if-was-d.true
+
+pub returns-then-was-le-WORD_MAX : goal.returns-then-was-le-WORD_MAX
+returns-then-was-le-WORD_MAX c =
+    λ w R. asked_clash c.args.cells.now w c.args.top c.args.o c.args.d R c.requires.0
+    c.requires.1 c.if-was-le-WORD_MAX.true c.if-was-d.false
+
+pub returns : goal.returns
+returns c =
+    λ w R. asked_fresh c.args.cells.now w c.args.top c.args.o c.args.d R c.requires.0
+    c.requires.1 c.if-was-le-WORD_MAX.false
