@@ -63,6 +63,7 @@ module _ (I : Isa) (L : Laws I) where
   -- the rows' offsets rise from o to n
   pub chain_in : (o n : ℕ) (rs : List (Row I)) (r : Row I) → Chain I o rs n → Mem r rs
       → (o ≤ r.offset) × (r.offset < n)
+  chain_in o n [] r h m = elim m [ ]
   chain_in o n (x ∷ rs) r h (mhead e) =
       let q : r.offset ≡ o = ap (λ (y : Row I). y.offset) e ∙ h.0 in
       omega (arith, chain_le (o + size I x.what) n rs h.1, size_some x.what)
@@ -95,6 +96,7 @@ module _ (I : Isa) (L : Laws I) where
 
   pub depth_row : (s : ℕ) (rs : List (Row I)) (n : ℕ) (c : Depth) (r : Row I) → Chain I s rs n → Mem r rs
       → depth_at I rs n c r.offset ≡ some r.depth
+  depth_row s [] n c r h m = elim m [ ]
   depth_row s (x ∷ rs) n c r h (mhead e) = rw (e, eq-eqb x.offset x.offset refl)
   depth_row s (x ∷ rs) n c r h (mtail m) =
       let q = chain_in (s + size I x.what) n rs r h.1 m in

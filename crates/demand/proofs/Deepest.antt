@@ -24,6 +24,7 @@ use Rattle.demand.proofs.Machining.{laws}
 -- no row, and no live end, is deeper
 
 row_under : (rs : List (Row isa)) (here : Depth) (r : Row isa) → Mem r rs → r.depth ≤ deepest_seen rs here
+row_under [] here r m = elim m [ ]
 row_under (x ∷ rs) here r (mhead e) =
     let z : r.depth ≡ x.depth = ap (λ (y : Row isa). y.depth) e in
     omega arith

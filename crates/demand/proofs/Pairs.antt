@@ -63,6 +63,7 @@ pub begins_mem : (ps : List (ℕ × ℕ)) (o d : ℕ) → Begins (cells ps) o d 
 begins_mem ps o d b = row_mem ps b.row o d b.inside b.offset b.depth
 
 pub mem_begins : (ps : List (ℕ × ℕ)) (o d : ℕ) → Mem (o, d) ps → Begins (cells ps) o d
+mem_begins [] o d m = elim m [ ]
 mem_begins (p ∷ ps) o d (mhead e) = record { row = 0; inside = omega arith; offset = sym (ap (λ (x : ℕ × ℕ). x.0) e); depth = sym (ap (λ (x : ℕ × ℕ). x.1) e) }
 mem_begins (p ∷ ps) o d (mtail m) =
     let b = mem_begins ps o d m in

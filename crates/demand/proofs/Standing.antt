@@ -87,6 +87,7 @@ stands_by s o w rest v e = record {
 -- a row's bytes stand at its offset
 at_row : (o n : ℕ) (pre : List ℕ) (rs : List (Row isa)) (r : Row isa) → length pre ≡ o → Chain isa o rs n → Mem r rs
     → (rest : List ℕ) × (drop r.offset (pre ++ bytes_of isa rs) ≡ bytes_at isa r.offset r.what ++ rest)
+at_row o n pre [] r l h m = elim m [ ]
 at_row o n pre (x ∷ rs) r l h (mhead e) =
     let q : r.offset ≡ o = ap (λ (y : Row isa). y.offset) e ∙ h.0 in (
       bytes_of isa rs,

@@ -3,7 +3,7 @@
 -- and the arguments at exit. So nothing here says a second time what a call does.
 -- Assumes nothing.
 use Rattle.std.specs.Prelude.{◌≡◌, List, ℕ}
-use Rattle.std.specs.Borrow.{Bor}
+use Rattle.std.specs.Borrow.{Bor, MutBor}
 use Rattle.builder.specs.declared.Added.{Added}
 use Rattle.builder.specs.declared.Added.TheVariants as N
 use Rattle.builder.specs.declared.Answer.{Answer}
@@ -109,13 +109,17 @@ after_const (N.Refused r) old = old
 abbrev pub always : {A : Type 0} → A → Given
 always r = ok
 
--- a lent slice: a reference to its cells
+-- a slice lent to be written: a reference to its cells
 abbrev pub Slice : Type 0
-Slice = Bor (List ℕ)
+Slice = MutBor (List ℕ)
 
--- one that holds these cells, wherever it lies
+-- the same slice, lent to be read alone
+abbrev pub to_read : Slice → Bor (List ℕ)
+to_read s = record { ref_ptr = s.ref_ptr; now = s.now }
+
+-- one lent to be read that holds these cells, wherever it lies
 pub record Holding (cells : List ℕ) : Type 0 where
-  pub slice : Slice
+  pub slice : Bor (List ℕ)
   pub holds : slice.now ≡ cells
 
 -- the seven tables as slices
@@ -249,7 +253,7 @@ Made (emit_numbered call k a b c ns) w =
 Made (emit_jump k) w =
     By emit_jump_says (λ t. (w.state, (k, (t.code, (t.locations, (t.marks, tt)))))) given_jump labelling w
 Made (emit_jump_to k aim) w =
-    By emit_jump_to_says (λ t. (w.state, (k, (aim, (t.code, (t.locations, (t.marks, tt))))))) given emission w
+    By emit_jump_to_says (λ t. (w.state, (k, (aim, (t.code, (t.locations, (to_read t.marks, tt))))))) given emission w
 Made current_jump_target w = By current_jump_target_says (λ t. (w.state, (t.marks, tt))) given_target targeting w
 Made (patch_jump l) w = By patch_jump_says (λ t. (w.state, (l, (t.code, (t.marks, tt))))) given patching w
 Made (new_code_region d f) w = By new_code_region_says (λ t. (w.state, (d, (t.starts, tt)))) given opening w
@@ -263,7 +267,7 @@ Made (register_local_names ns) w =
     given naming w g w'
 Made (register_local_name slot name) w =
     By register_local_name_says (λ t. (w.state, (slot, (name, (t.names, tt))))) given naming w
-Made (build fill) w = By build_says (λ t. (w.state, (fill, (t.names, (t.marks, tt))))) given naming w
+Made (build fill) w = By build_says (λ t. (w.state, (fill, (t.names, (to_read t.marks, tt))))) given naming w
 Made (set_location r f) w = By set_location_says (λ t. (w.state, (r, (f, tt)))) always setting w
 Made current_offset w = By current_offset_says (λ t. (w.state, tt)) always asking w
 Made current_position w = By current_position_says (λ t. (w.state, tt)) always asking w
