@@ -31,13 +31,12 @@ returns-in_default c =
     c.ask-asked.result c.ask-asked.ensures c.in_default.is
 
 pub loop-k-preserved : goal.loop-k-preserved
-loop-k-preserved c =
-    (
-      omega arith,
-      beginning_on c.loop-k.invariant.1 (omega arith) c.start_offset-o.ensures
-          c.start_depth-d.ensures c.ask-asked.new.cells c.ask-asked.new.work
-          c.ask-asked.result c.ask-asked.ensures c.in-On.is,
-    )
+loop-k-preserved c = (
+  omega arith,
+  beginning_on c.loop-k.invariant.1 (omega arith) c.start_offset-o.ensures
+      c.start_depth-d.ensures c.ask-asked.new.cells c.ask-asked.new.work
+      c.ask-asked.result c.ask-asked.ensures c.in-On.is,
+)
 
 pub shape_of-cells : goal.shape_of-cells
 shape_of-cells c = omega (arith, c.loop-k.invariant.1.grew.size)

@@ -18,11 +18,10 @@ pub take-at-requires : goal.take-at-requires
 take-at-requires c = last_inside c.loop-top.invariant c.loop-top-test.true
 
 pub follow-ran-requires : goal.follow-ran-requires
-follow-ran-requires c =
-    (
-      took_in_hand c.loop-top.invariant c.loop-top-test.true c.take-at.ensures,
-      omega (arith, c.loop-top.invariant.size, c.requires.1),
-    )
+follow-ran-requires c = (
+  took_in_hand c.loop-top.invariant c.loop-top-test.true c.take-at.ensures,
+  omega (arith, c.loop-top.invariant.size, c.requires.1),
+)
 
 pub shape_of-cells-in-Stuck : goal.shape_of-cells-in-Stuck
 shape_of-cells-in-Stuck c = omega (arith, c.loop-top.invariant.size)

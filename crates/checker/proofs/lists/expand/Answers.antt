@@ -14,15 +14,14 @@ pub bounds-cells-at : goal.bounds-cells-at
 bounds-cells-at c = omega (arith, deep_inside c.args.cells.now c.args.at c.requires.2)
 
 pub move_on-requires : goal.move_on-requires
-move_on-requires c =
-    (
-      c.requires.0,
-      omega (
-        arith,
-        stands_size (flow_stands c.flow_at-got.ensures c.in-Op.is),
-        c.requires.1,
-      ),
-    )
+move_on-requires c = (
+  c.requires.0,
+  omega (
+    arith,
+    stands_size (flow_stands c.flow_at-got.ensures c.in-Op.is),
+    c.requires.1,
+  ),
+)
 
 pub returns-in-Op : goal.returns-in-Op
 returns-in-Op c =

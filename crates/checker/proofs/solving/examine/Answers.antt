@@ -30,9 +30,8 @@ settle-requires c =
     )
 
 pub returns-in-Fault : goal.returns-in-Fault
-returns-in-Fault c =
-    (
-      inl (subst (λ (x : Walk). Walked last_opcode c.args.code.now c.mark_places-walked.new.work
-          x) c.in-Fault.is c.mark_places-walked.ensures),
-      refl,
-    )
+returns-in-Fault c = (
+  inl (subst (λ (x : Walk). Walked last_opcode c.args.code.now c.mark_places-walked.new.work
+      x) c.in-Fault.is c.mark_places-walked.ensures),
+  refl,
+)

@@ -10,14 +10,13 @@ use Rattle.checker.proofs.Solutions.{solution}
 use Rattle.checker.proofs.solving.solve.Goals as goal
 
 pub reach-came-requires : goal.reach-came-requires
-reach-came-requires c =
-    (
-      c.fill.ensures ∙ ap (λ (n : ℕ). replicate n 65536) c.requires.0.cells,
-      marked_ready c.requires.2 (omega (arith, c.requires.0.cells, c.requires.0.work))
-          (omega (arith, c.requires.0.short, c.requires.0.cells)),
-      marked_marks c.requires.2,
-      c.requires.3,
-    )
+reach-came-requires c = (
+  c.fill.ensures ∙ ap (λ (n : ℕ). replicate n 65536) c.requires.0.cells,
+  marked_ready c.requires.2 (omega (arith, c.requires.0.cells, c.requires.0.work))
+      (omega (arith, c.requires.0.short, c.requires.0.cells)),
+  marked_marks c.requires.2,
+  c.requires.3,
+)
 
 pub before_last-requires : goal.before_last-requires
 before_last-requires c = (omega (arith, c.requires.0.cells), (c.reach-came.ensures.on _ c.in-On.is).count)

@@ -8,11 +8,10 @@ use borrow.Author.Rules.{rules}
 use Rattle.checker.proofs.solving.within.Goals as goal
 
 pub examine-examined-requires : goal.examine-examined-requires
-examine-examined-requires c =
-    (
-      record { short = c.requires.short; cells = c.requires.cells; work = omega (arith, c.requires.work) },
-      c.fill.ensures ∙ ap (λ (n : ℕ). replicate n 0) c.requires.work,
-    )
+examine-examined-requires c = (
+  record { short = c.requires.short; cells = c.requires.cells; work = omega (arith, c.requires.work) },
+  c.fill.ensures ∙ ap (λ (n : ℕ). replicate n 0) c.requires.work,
+)
 
 pub returns : goal.returns
 returns c =

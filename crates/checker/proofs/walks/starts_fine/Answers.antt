@@ -31,16 +31,15 @@ returns-then-not-marked c =
     (sym c.marked.ensures ∙ c.if-not-marked.true)
 
 pub loop-k-preserved : goal.loop-k-preserved
-loop-k-preserved c =
-    (
-      omega arith,
-      below_more (Good c.args.work.now c.args.starts.now) c.loop-k.k c.loop-k.invariant.1 (
-        omega (arith, c.start_depth.ensures, c.if-start_depth-gt-WORD_MAX.false),
-        subst (λ (o : ℕ). leb place_mark (get_or c.args.work.now o 0) ≡ true)
-            c.start_offset.ensures
-            (sym c.marked.ensures ∙ c.if-not-marked.false),
-      ),
-    )
+loop-k-preserved c = (
+  omega arith,
+  below_more (Good c.args.work.now c.args.starts.now) c.loop-k.k c.loop-k.invariant.1 (
+    omega (arith, c.start_depth.ensures, c.if-start_depth-gt-WORD_MAX.false),
+    subst (λ (o : ℕ). leb place_mark (get_or c.args.work.now o 0) ≡ true)
+        c.start_offset.ensures
+        (sym c.marked.ensures ∙ c.if-not-marked.false),
+  ),
+)
 
 pub returns : goal.returns
 returns c = starts_good (omega arith) (omega arith) c.loop-k.invariant.1

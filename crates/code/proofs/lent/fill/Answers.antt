@@ -18,13 +18,12 @@ pub loop-i-smaller : goal.loop-i-smaller
 loop-i-smaller c = simp length-set (omega arith)
 
 pub loop-i-preserved : goal.loop-i-preserved
-loop-i-preserved c =
-    (
-      omega arith,
-      simp length-set c.loop-i.invariant.1,
-      ap (λ (x : List ℕ). set x c.loop-i.i c.args.v) c.loop-i.invariant.2
-          ∙ fill_more c.loop-i.i c.args.v c.args.cells.now (omega arith),
-    )
+loop-i-preserved c = (
+  omega arith,
+  simp length-set c.loop-i.invariant.1,
+  ap (λ (x : List ℕ). set x c.loop-i.i c.args.v) c.loop-i.invariant.2
+      ∙ fill_more c.loop-i.i c.args.v c.args.cells.now (omega arith),
+)
 
 pub shape_of-cells : goal.shape_of-cells
 shape_of-cells c = c.loop-i.invariant.1
