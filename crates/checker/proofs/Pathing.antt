@@ -7,9 +7,9 @@ use mathlib.Core.List.Memᴰ.{head as mhead}
 use mathlib.Core.List.Memᴰ.{tail as mtail}
 use mathlib.Core.List.{List, [], ◌∷◌, Memᴰ as Mem}
 use mathlib.Core.List.Memᴰ
-use mathlib.Core.Logic.{◌⊎◌, ⊎_elim, inl, inr}
+use mathlib.Core.Logic.{⊎_elim, inl, inr}
 use mathlib.Core.Option.{Option, some, none}
-use Prim.Native.Nat.{ℕ, suc, ◌+◌, ◌-◌, ◌≤◌, ◌<◌}
+use Prim.Native.Nat.{ℕ, suc, ◌+◌, ◌-◌}
 use native.Mathlib.Omega.{arith}
 use lib.Dec.{ltb, leb, eqb}
 use lib.IntN.{ℤ, pos, negsuc, sub_ℕ, nat_abs, ◌+ℤ◌}
@@ -25,25 +25,19 @@ use Rattle.op.specs.declared.Operand.{Operand}
 use Rattle.op.specs.declared.Operand.TheVariants as O
 use Rattle.op.specs.declared.Refusal.{Refusal}
 use Rattle.code.specs.Decode.{decode}
-use Rattle.code.specs.Depths.{Stands, Place, Begins, Leads, Assigns, Derived, start, fall, jump}
+use Rattle.code.specs.Depths.{Stands, Begins, Leads, Assigns, Derived, start, fall, jump}
 use Rattle.code.specs.Flow.{goal_by, goal_of, change_of, flow_by, flowing_by, flow_of}
-use Rattle.code.specs.Reading.{Spot, Read, spot_at, places_in}
-use Rattle.code.specs.Tables.{jump_size}
+use Rattle.code.specs.Reading.{Spot, spot_at, places_in}
 use Rattle.code.specs.declared.Flow.{Flow}
-use Rattle.code.specs.declared.Flowing.{Flowing}
-use Rattle.code.specs.declared.Goal.{Goal}
 use Rattle.code.specs.declared.Goal.TheVariants.{Nowhere, To, Outside}
-use Rattle.code.specs.declared.Step.{Step}
 use Rattle.code.specs.declared.Step.TheVariants.{Instr, End, Refused}
 use Rattle.code.proofs.Assigning.{leads_is, derived_in}
 use Rattle.code.proofs.Decoding.{decoded}
 use Rattle.code.proofs.Instructions.{read_from, read_ind}
-use Rattle.code.proofs.Moving.{of_change, is_by, change_is, flowed, jumps_by_shape, net_is}
+use Rattle.code.proofs.Moving.{is_by, change_is, flowed, jumps_by_shape, net_is}
 use Rattle.checker.specs.declared.Assignment.{Assignment}
-use Rattle.checker.specs.declared.Checked.TheVariants.{Accepted}
-use Rattle.checker.specs.Cells.{depth_in}
-use Rattle.checker.specs.Promise.{Greatest, Solution, Promise}
-use Rattle.checker.specs.Paths.{Point, Met, FallsThrough, TakesJump, Follows, AtStart, Path, Enough}
+use Rattle.checker.specs.Promise.{Greatest}
+use Rattle.checker.specs.Paths.{Point, Met, FallsThrough, TakesJump, Follows, Path, Enough}
 use Rattle.checker.specs.Statements.{StackEnough}
 use Rattle.checker.proofs.Promising.{accepted}
 

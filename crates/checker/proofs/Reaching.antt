@@ -26,7 +26,6 @@ use Rattle.code.specs.declared.Goal.TheVariants.{Nowhere, To, Outside}
 use Rattle.code.specs.Flow.{flow_of}
 use Rattle.code.specs.Reading.{instructions_in, places_in}
 use Rattle.code.specs.Depths.{Stands, Place, Begins, Derived, start, fall, jump}
-use Rattle.checker.specs.declared.Checked.TheVariants.{Refused}
 use Rattle.checker.specs.Inner.{NoFault}
 
 -- depths that paths of at most k steps lead to

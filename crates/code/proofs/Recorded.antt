@@ -15,8 +15,7 @@ use Rattle.code.proofs.Putting.{take_put_all}
 use Rattle.code.specs.Rows.{cell}
 use Rattle.code.specs.Tables.{location_cells}
 use Rattle.code.specs.Locations.{location_count, location_numbers, location_row, push_location, used_locations}
-use Rattle.code.specs.Lookups.{RecordedIsFound, first_greater, greater, largest_u32, location_of, row_before}
-use Rattle.code.specs.declared.Located.{Located}
+use Rattle.code.specs.Lookups.{RecordedIsFound, first_greater, greater, largest_u32, location_of}
 use Rattle.code.specs.declared.Located.TheVariants.{Row}
 use Rattle.code.specs.declared.LocationRow.{LocationRow}
 

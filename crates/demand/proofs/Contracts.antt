@@ -1,9 +1,7 @@
 -- The contracts leave no choice: what a call answers and leaves, if its function keeps its contract, is the step of
 -- the model.
 -- Assumes nothing.
-use mathlib.Core.Path.{◌≡◌, refl, sym, ap, subst, ◌∙◌}
-use mathlib.Core.List.{List}
-use Prim.Native.Nat.{ℕ}
+use mathlib.Core.Path.{◌≡◌, refl, ap, subst}
 use Rattle.demand.specs.History.{Given}
 use Rattle.demand.specs.Calls.{emit', emit_u8, emit_i8, emit_u8_u8, emit_u16, emit_u16_u16, emit_u16_u8, emit_u16_u8_u8, emit_call_builtin_function, emit_call_builtin_type}
 use Rattle.demand.specs.Calls.{emit_call_function_kw, emit_call_attr_kw, emit_raise_unbound_local}
@@ -12,7 +10,7 @@ use Rattle.demand.specs.Calls.{emit_numbered}
 use Rattle.demand.specs.Calls.{emit_jump, emit_jump_to, current_jump_target, patch_jump, new_code_region, add_const, add_exception_entry, register_local_names, register_local_name, build}
 use Rattle.demand.specs.Calls.{set_location, current_offset, current_position, stack_depth, is_dead, PublicCall}
 use Rattle.demand.specs.World.{World, world, Lent, Holds, By, Made}
-use Rattle.demand.proofs.Model.{Turn, turn, emits, jumps, targets, patches, opens, adds, enters, registers, sets}
+use Rattle.demand.proofs.Model.{turn, emits, jumps, targets, patches, opens, adds, enters, registers, sets}
 use Rattle.demand.proofs.Model.{step}
 
 -- a world with the cells that a call is lent

@@ -1,8 +1,8 @@
 -- What each call comes to, as a function: the answer and the world that its contract leaves no choice in
 -- (Contracts.antt has the law).
 -- Assumes nothing.
-use mathlib.Core.List.{List, []}
-use Prim.Native.Nat.{ℕ, ◌%◌}
+use mathlib.Core.List.{[]}
+use Prim.Native.Nat.{◌%◌}
 use lib.ListN.{length}
 use Rattle.op.specs.Chosen.{LoadGlobalCallable, CallBuiltinFunction, CallBuiltinType, CallFunctionKw, CallAttrKw}
 use Rattle.op.specs.Opcodes.{RaiseUnboundLocal}

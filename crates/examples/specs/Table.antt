@@ -1,6 +1,6 @@
 -- The rules' examples A to L, a single table and statement (R61), each about what a call's promise says of it.
 -- Assumes nothing.
-use Rattle.std.specs.Prelude.{◌≡◌, List, [], ◌∷◌, ◌++◌, ℕ, ◌%◌, ◌<◌, ℤ, negsuc, length, drop, replicate}
+use Rattle.std.specs.Prelude.{◌≡◌, List, [], ◌∷◌, ◌++◌, ℕ, ◌%◌, ◌<◌, negsuc, length, drop, replicate}
 use Rattle.op.specs.Opcodes.{last_opcode, Jump, RaiseUnboundLocal, ForIter, JumpIfTrueOrPop}
 use Rattle.op.specs.Refusals.{number_of}
 use Rattle.op.specs.declared.Operand.TheVariants.{U16, CallKw}

@@ -2,12 +2,10 @@
 -- Assumes nothing.
 use mathlib.Core.Path.{◌≡◌, refl}
 use mathlib.Core.Bool.{Bool, true, false}
-use Prim.Native.Nat.{ℕ}
 use lib.Dec.{T}
 use Rattle.op.specs.Flags.{decoded_flags, flags_of}
 use Rattle.op.specs.declared.AssertFlags.{AssertFlags}
 use Rattle.op.specs.declared.AssertFlags.TheVariants.{Valid, Invalid}
-use Rattle.op.specs.declared.CmpOperator.{CmpOperator}
 use Rattle.op.specs.declared.CmpOperator.TheVariants.{Eq, NotEq, Lt, LtE, Gt, GtE, Is, IsNot, In, NotIn}
 use Rattle.op.specs.declared.Compared.{Compared}
 use Rattle.op.specs.declared.Compared.TheVariants.{Nothing, With}

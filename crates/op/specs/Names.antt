@@ -1,7 +1,7 @@
 -- The names of the opcodes as bytes: op.rs, `enum Opcode`.
 -- Assumes nothing.
-use Rattle.std.specs.Prelude.{cond, List, [], ◌∷◌, ◌++◌, ℕ, suc, ◌+◌, ◌-◌, leb, length, get_or, take, drop}
-use Prim.Native.Char.{Char, code}
+use Rattle.std.specs.Prelude.{cond, List, [], ◌∷◌, ◌++◌, ℕ, ◌+◌, ◌-◌, leb, length, get_or, take, drop}
+use Prim.Native.Char.{code}
 use Prim.Native.String.{String, [] as none, ◌∷◌ as ◌then◌}
 use Rattle.op.specs.Opcodes.{Row, op, table, row_of}
 

@@ -3,7 +3,7 @@
 -- Assumes nothing.
 use mathlib.Core.Path.{◌≡◌, refl, sym, ap, subst, ◌∙◌}
 use mathlib.Core.List.{List, ◌++◌}
-use mathlib.Core.Logic.{◌⊎◌, ⊎_elim, inl, inr}
+use mathlib.Core.Logic.{⊎_elim, inl, inr}
 use mathlib.Core.Option.{some}
 use Prim.Native.Nat.{ℕ, suc, ◌+◌, ◌≤◌, ◌<◌}
 use native.Mathlib.Numerals.{add-one}
@@ -39,7 +39,7 @@ use Rattle.strict.specs.declared.Verdict.{Verdict}
 use Rattle.strict.specs.declared.Verdict.TheVariants as J
 use Rattle.strict.specs.Promise.{Short, Lowest, Stricter, Promise, TooFew, answer_of, Reasoned, Explains}
 use Rattle.strict.specs.Statements.{StrictAccepted, StrictRefused, CheckOne, ExplainOne}
-use Rattle.strict.specs.Inner.{FirstShort, Shortened, EnoughBefore, ShortAt, Judged, plainly, Strictly, Roomy}
+use Rattle.strict.specs.Inner.{FirstShort, Shortened, EnoughBefore, Judged, plainly, Strictly, Roomy}
 
 -- the pass over the cells
 

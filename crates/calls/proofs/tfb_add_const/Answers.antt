@@ -4,7 +4,6 @@ use mathlib.Core.Path.{sym, ◌∙◌}
 use Rattle.calls.specs.Exports.{add_const_in}
 use Rattle.calls.proofs.Held.{enough}
 use Rattle.calls.proofs.Leaving.{added_none, added_goes}
-use borrow.Author.Rules.{rules}
 use Rattle.calls.proofs.tfb_add_const.Goals as goal
 
 pub returns-in_default : goal.returns-in_default

@@ -6,7 +6,6 @@ use Rattle.builder.specs.declared.Answer.TheVariants.{Refused}
 use Rattle.calls.specs.Exports.{add_exception_in}
 use Rattle.calls.proofs.Held.{enough}
 use Rattle.calls.proofs.Leaving.{kept_none, kept_goes, kind_none, kind_is, no_change}
-use borrow.Author.Rules.{rules}
 use Rattle.calls.proofs.tfb_add_exception_entry.Goals as goal
 
 pub returns-in_default : goal.returns-in_default

@@ -4,7 +4,6 @@ use mathlib.Core.Path.{sym, ◌∙◌}
 use Rattle.calls.specs.Exports.{current_jump_target_in}
 use Rattle.calls.proofs.Held.{enough}
 use Rattle.calls.proofs.Leaving.{target_none, target_goes}
-use borrow.Author.Rules.{rules}
 use Rattle.calls.proofs.tfb_current_jump_target.Goals as goal
 
 pub returns-in_default : goal.returns-in_default

@@ -4,7 +4,6 @@ use mathlib.Core.Path.{sym, ◌∙◌}
 use Rattle.calls.specs.Exports.{emit_jump_in}
 use Rattle.calls.proofs.Held.{enough}
 use Rattle.calls.proofs.Leaving.{jump_none, jump_goes}
-use borrow.Author.Rules.{rules}
 use Rattle.calls.proofs.tfb_emit_jump.Goals as goal
 
 pub returns-in_default : goal.returns-in_default

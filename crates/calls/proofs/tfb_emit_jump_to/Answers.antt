@@ -4,7 +4,6 @@ use mathlib.Core.Path.{sym, ◌∙◌}
 use Rattle.calls.specs.Exports.{emit_jump_to_in}
 use Rattle.calls.proofs.Held.{enough}
 use Rattle.calls.proofs.Leaving.{emit_none, emit_goes}
-use borrow.Author.Rules.{rules}
 use Rattle.calls.proofs.tfb_emit_jump_to.Goals as goal
 
 pub returns-in_default : goal.returns-in_default

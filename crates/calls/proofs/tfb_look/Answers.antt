@@ -6,7 +6,6 @@ use Prim.Native.Nat.{ℕ}
 use borrow.Author.Tests.{le-leb, lt-leb}
 use Rattle.calls.specs.Exports.{look, look_in}
 use Rattle.calls.proofs.Leaving.{held_none, held_is}
-use borrow.Author.Rules.{rules}
 use Rattle.calls.proofs.tfb_look.Goals as goal
 
 pub returns-in_default : goal.returns-in_default

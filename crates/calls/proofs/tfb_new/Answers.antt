@@ -5,7 +5,6 @@ use Rattle.op.specs.declared.Refusal.TheVariants.{WrongShape}
 use Rattle.builder.specs.declared.Answer.TheVariants.{Refused}
 use Rattle.calls.specs.Exports.{new_in}
 use Rattle.calls.proofs.Leaving.{depth_none, depth_is, kept_few, kept_enough, no_change}
-use borrow.Author.Rules.{rules}
 use Rattle.calls.proofs.tfb_new.Goals as goal
 
 pub returns-then-state-lt-STATE_CELLS : goal.returns-then-state-lt-STATE_CELLS

@@ -4,7 +4,6 @@ use mathlib.Core.Path.{sym, ◌∙◌}
 use Rattle.calls.specs.Exports.{register_local_name_in}
 use Rattle.calls.proofs.Held.{enough}
 use Rattle.calls.proofs.Leaving.{kept_none, kept_goes}
-use borrow.Author.Rules.{rules}
 use Rattle.calls.proofs.tfb_register_local_name.Goals as goal
 
 pub returns-in_default : goal.returns-in_default

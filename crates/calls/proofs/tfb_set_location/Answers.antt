@@ -6,7 +6,6 @@ use Rattle.builder.specs.declared.Answer.TheVariants.{Accepted, Refused}
 use Rattle.calls.specs.Exports.{set_location_in}
 use Rattle.calls.proofs.Held.{enough}
 use Rattle.calls.proofs.Leaving.{alone_none, alone_goes, focus_none, focus_is, no_change}
-use borrow.Author.Rules.{rules}
 use Rattle.calls.proofs.tfb_set_location.Goals as goal
 
 pub returns-in_default : goal.returns-in_default

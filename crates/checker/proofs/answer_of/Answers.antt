@@ -2,7 +2,6 @@
 -- Assumes nothing.
 use mathlib.Core.Path.{sym, ap}
 use Rattle.checker.specs.Reasons.{answer_of}
-use borrow.Author.Rules.{rules}
 use Rattle.checker.proofs.answer_of.Goals as goal
 
 pub returns-in-Accepted : goal.returns-in-Accepted

@@ -1,7 +1,6 @@
 -- `checker::check` meets its contract: the explained answer without its reason.
 -- Assumes nothing.
 use mathlib.Core.Path.{sym, subst}
-use borrow.Author.Rules.{rules}
 use Rattle.op.specs.Opcodes.{last_opcode}
 use Rattle.checker.specs.declared.Checked.{Checked}
 use Rattle.checker.specs.Promise.{Promise}

@@ -5,8 +5,6 @@ use mathlib.Core.Path.{◌≡◌, ◌∙◌, sym}
 use native.Mathlib.Omega.{arith}
 use lib.ListN.{length}
 use lib.Seq.{length-take-le}
-use borrow.Author.Rules.{rules}
-use borrow.Author.Tests.{not-false, not-true}
 use Rattle.checker.specs.Promise.{built_sound}
 use Rattle.checker.proofs.Promising.{built_unsound, built_within, built_used}
 use Rattle.checker.proofs.check_built.Goals as goal

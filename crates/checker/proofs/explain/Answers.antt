@@ -6,7 +6,6 @@ use mathlib.Core.Logic.{inl, inr}
 use native.Mathlib.Omega.{arith}
 use lib.ListN.{length}
 use lib.Seq.{length-take-le}
-use borrow.Author.Rules.{rules}
 use Rattle.checker.proofs.Promising.{explained_long, explained_room, explained_work, part_size}
 use Rattle.checker.proofs.explain.Goals as goal
 

@@ -1,6 +1,5 @@
 -- `fingerprint::fnv1a` meets its contract: by its definition.
 -- Assumes nothing.
-use Rattle.std.proofs.Common.{rules}
 use Rattle.fingerprint.specs.Fnv.{fnv1a_of}
 use Rattle.fingerprint.proofs.fnv1a.Goals as goal
 

@@ -1,6 +1,6 @@
 -- `fingerprint::hash_on` meets its contract: the loop's invariant: what is left, hashed on, gives the hash of all.
 -- Assumes nothing.
-use Rattle.std.proofs.Common.{◌≡◌, ℕ, ◌+◌, ◌-◌, ◌≤◌, length, drop, sym, refl, ap, ◌∙◌, arith, rules}
+use Rattle.std.proofs.Common.{ℕ, ◌+◌, drop, sym, refl, ap, ◌∙◌, arith}
 use Rattle.fingerprint.specs.Fnv.{hash_from}
 use Rattle.fingerprint.proofs.Hashing.{hash_step, hash_end}
 use Rattle.fingerprint.proofs.hash_on.Goals as goal

@@ -1,6 +1,5 @@
-use Rattle.std.proofs.Common.{◌≡◌, ℕ, ◌+◌, ◌-◌, ◌≤◌, length, drop, sym, refl, ap, ◌∙◌, arith, rules}
+use Rattle.std.proofs.Common.{◌≡◌, ◌-◌, ◌≤◌, length, drop}
 use Rattle.fingerprint.specs.Fnv.{hash_from}
-use Rattle.fingerprint.proofs.Hashing.{hash_step, hash_end}
 use Rattle.fingerprint.proofs.hash_on.Given as goal
 
 abbrev pub invariant-loop-i : goal.invariant-loop-i

@@ -1,6 +1,5 @@
 -- `fingerprint::mix` meets its contract: by its definition.
 -- Assumes nothing.
-use Rattle.std.proofs.Common.{rules}
 use Rattle.fingerprint.specs.Fnv.{mixed}
 use Rattle.fingerprint.proofs.mix.Goals as goal
 

@@ -1,8 +1,7 @@
 -- `fingerprint::opcode_fingerprint` meets its contract: the loop's invariant: what the table has from the opcode on,
 -- hashed on, gives the fingerprint.
 -- Assumes nothing.
-use Rattle.std.proofs.Common.{◌≡◌, ℕ, suc, ◌+◌, ◌-◌, ◌≤◌, sym, refl, ap, ◌∙◌, arith, rules}
-use Rattle.op.specs.Opcodes.{last_opcode}
+use Rattle.std.proofs.Common.{ℕ, ◌+◌, sym, refl, ap, ◌∙◌, arith}
 use Rattle.fingerprint.specs.Fnv.{hash_from, fnv1a_of}
 use Rattle.fingerprint.specs.Table.{table_bytes, fingerprint}
 use Rattle.fingerprint.proofs.Tabled.{from, hash_opcode, hash_last}

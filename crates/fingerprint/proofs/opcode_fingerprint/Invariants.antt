@@ -1,8 +1,8 @@
-use Rattle.std.proofs.Common.{◌≡◌, ℕ, suc, ◌+◌, ◌-◌, ◌≤◌, sym, refl, ap, ◌∙◌, arith, rules}
+use Rattle.std.proofs.Common.{◌≡◌, suc, ◌-◌, ◌≤◌}
 use Rattle.op.specs.Opcodes.{last_opcode}
-use Rattle.fingerprint.specs.Fnv.{hash_from, fnv1a_of}
-use Rattle.fingerprint.specs.Table.{table_bytes, fingerprint}
-use Rattle.fingerprint.proofs.Tabled.{from, hash_opcode, hash_last}
+use Rattle.fingerprint.specs.Fnv.{hash_from}
+use Rattle.fingerprint.specs.Table.{fingerprint}
+use Rattle.fingerprint.proofs.Tabled.{from}
 use Rattle.fingerprint.proofs.opcode_fingerprint.Given as goal
 
 abbrev pub invariant-loop-opcode : goal.invariant-loop-opcode

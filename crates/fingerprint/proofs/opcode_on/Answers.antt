@@ -1,6 +1,6 @@
 -- `fingerprint::opcode_on` meets its contract: the bytes of an opcode, part by part.
 -- Assumes nothing.
-use Rattle.std.proofs.Common.{ℕ, ap, ◌∙◌, ap₂, rules}
+use Rattle.std.proofs.Common.{ℕ, ap, ◌∙◌, ap₂}
 use Rattle.fingerprint.specs.Fnv.{mixed, hash_from}
 use Rattle.fingerprint.proofs.Tabled.{hash_parts}
 use Rattle.fingerprint.proofs.opcode_on.Goals as goal

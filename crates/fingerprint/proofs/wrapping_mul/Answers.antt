@@ -1,7 +1,7 @@
 -- `fingerprint::wrapping_mul` meets its contract: the lower two digits of the product in base 2^32.
 -- Assumes nothing.
-use Rattle.std.proofs.Common.{ℕ, ◌+◌, ◌*◌, ◌%◌, ◌^◌, ap, ◌∙◌, rules}
-use Rattle.fingerprint.proofs.Wrapping.{low, high, product_fits, low_fits, high_fits, halves_law}
+use Rattle.std.proofs.Common.{ℕ, ◌+◌, ◌*◌, ◌%◌, ◌^◌, ap, ◌∙◌}
+use Rattle.fingerprint.proofs.Wrapping.{low, high, halves_law}
 use Rattle.fingerprint.proofs.wrapping_mul.Goals as goal
 
 pub returns : goal.returns

@@ -1,7 +1,6 @@
 -- `strict::answer_of` meets its contract, case by case.
 -- Assumes nothing.
 use mathlib.Core.Path.{sym, ap}
-use borrow.Author.Rules.{rules}
 use Rattle.strict.specs.Promise.{answer_of}
 use Rattle.strict.proofs.answer_of.Goals as goal
 

@@ -1,6 +1,5 @@
 -- `strict::check` meets its contract: the answer without the reason.
 -- Assumes nothing.
-use borrow.Author.Rules.{rules}
 use Rattle.strict.proofs.Strictness.{promised}
 use Rattle.strict.proofs.check.Goals as goal
 

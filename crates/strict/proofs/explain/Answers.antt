@@ -1,6 +1,5 @@
 -- `strict::explain` meets its contract, mode by mode.
 -- Assumes nothing.
-use borrow.Author.Rules.{rules}
 use Rattle.strict.proofs.Strictness.{roomy, by_net, by_strict}
 use Rattle.strict.proofs.explain.Goals as goal
 

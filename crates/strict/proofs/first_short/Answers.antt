@@ -1,13 +1,11 @@
 -- `strict::first_short` meets its contract: the loop's invariant: the cells before o hold enough.
 -- Assumes nothing.
-use Prim.Native.Nat.{ℕ, ◌-◌, ◌≤◌, ◌<◌}
+use Prim.Native.Nat.{ℕ, ◌≤◌}
 use native.Mathlib.Omega.{arith}
-use lib.ListN.{length, get_or}
+use lib.ListN.{get_or}
 use borrow.Author.Count.{below_more}
-use borrow.Author.Rules.{rules}
 use Rattle.op.specs.Needs.{need_of}
 use Rattle.checker.specs.Cells.{cell}
-use Rattle.strict.specs.Inner.{EnoughBefore}
 use Rattle.strict.proofs.Strictness.{short_none, short_here, enough_here}
 use Rattle.strict.proofs.first_short.Goals as goal
 

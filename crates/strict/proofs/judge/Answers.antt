@@ -1,6 +1,5 @@
 -- `strict::judge` meets its contract.
 -- Assumes nothing.
-use borrow.Author.Rules.{rules}
 use Rattle.strict.proofs.Strictness.{judged_short, judged_enough}
 use Rattle.strict.proofs.judge.Goals as goal
 

@@ -1,7 +1,6 @@
 -- `strict::plain` meets its contract, case by case.
 -- Assumes nothing.
 use mathlib.Core.Path.{sym, ap}
-use borrow.Author.Rules.{rules}
 use Rattle.strict.specs.Inner.{plainly}
 use Rattle.strict.proofs.plain.Goals as goal
 

@@ -1,11 +1,10 @@
 -- `strict::refuse` meets its contract.
 -- Assumes nothing.
-use mathlib.Core.Path.{sym, refl, ap}
+use mathlib.Core.Path.{sym, ap}
 use Prim.Native.Nat.{ℕ}
 use native.Mathlib.Omega.{arith}
 use lib.ListN.{get_or}
 use lib.Seq.{length-take-le}
-use borrow.Author.Rules.{rules}
 use Rattle.strict.specs.declared.Verdict.TheVariants.{TooFew}
 use Rattle.strict.proofs.Strictness.{blanked}
 use Rattle.strict.proofs.refuse.Goals as goal

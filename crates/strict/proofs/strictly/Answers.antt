@@ -3,7 +3,6 @@
 use mathlib.Core.Path.{◌≡◌, refl, subst}
 use mathlib.Core.List.{List}
 use Prim.Native.Nat.{ℕ}
-use borrow.Author.Rules.{rules}
 use Rattle.checker.specs.declared.Explained.{Explained}
 use Rattle.strict.specs.declared.Verdict.{Verdict}
 use Rattle.strict.specs.Inner.{Roomy, Strictly}

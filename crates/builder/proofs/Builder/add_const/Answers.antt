@@ -4,7 +4,6 @@
 use Prim.Native.Nat.{◌+◌, ◌≤◌}
 use Rattle.code.proofs.Putting.{put_lent}
 use Rattle.builder.specs.Constants.{add_const_of}
-use borrow.Author.Rules.{rules}
 use borrow.Author.Tests.{le-leb, le-ltb, lt-leb, lt-ltb}
 use lib.ListN.{length}
 use mathlib.Core.List.{[], ◌∷◌}

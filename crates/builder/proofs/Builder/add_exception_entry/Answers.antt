@@ -6,8 +6,7 @@ use Rattle.base.proofs.Bools.{and_true}
 use Rattle.code.proofs.Putting.{put_lent}
 use Rattle.builder.specs.Exceptions.{add_exception_of, exception_row, offset_max, offsets_fit}
 use Rattle.code.specs.Tables.{exception_cells}
-use borrow.Author.Rules.{rules}
-use borrow.Author.Tests.{le-leb, le-ltb, leb-true, lt-leb, lt-ltb, not-false, not-true}
+use borrow.Author.Tests.{le-leb, le-ltb, leb-true, lt-leb, lt-ltb}
 use lib.Dec.{leb}
 use lib.ListN.{length}
 use mathlib.Core.Bool.{true}

@@ -1,7 +1,6 @@
 -- `builder::Builder::build` meets its contract: its tests are the definition's, and the lent part comes back filled.
 -- Assumes nothing.
 use Rattle.builder.specs.Names.{build_of}
-use borrow.Author.Rules.{rules}
 use borrow.Author.Tests.{le-leb, lt-leb}
 use lib.Seq.{length-take-le}
 use mathlib.Core.Path.{◌∙◌, refl, sym}

@@ -1,7 +1,6 @@
 -- `builder::Builder::current_jump_target` meets its contract: its tests are the definition's.
 -- Assumes nothing.
 use Rattle.builder.specs.Marks.{target_of}
-use borrow.Author.Rules.{rules}
 use borrow.Author.Tests.{le-leb, lt-leb}
 use Rattle.builder.proofs.Builder.current_jump_target.Goals as goal
 

@@ -1,6 +1,5 @@
 -- `builder::Builder::current_position` meets its contract: an arm for each variant.
 -- Assumes nothing.
-use borrow.Author.Rules.{rules}
 use mathlib.Core.Path.{refl}
 use Rattle.builder.proofs.Builder.current_position.Goals as goal
 

@@ -1,6 +1,5 @@
 -- `builder::Builder::emit_call_function_kw` meets its contract: the helper's promise, at the count's byte.
 -- Assumes nothing.
-use borrow.Author.Rules.{rules}
 use Rattle.builder.proofs.Builder.emit_call_function_kw.Goals as goal
 
 pub returns : goal.returns

@@ -1,7 +1,6 @@
 -- `builder::Builder::emit_i8` meets its contract: the helper's promise; a number is what its bits say.
 -- Assumes nothing.
 use Rattle.builder.specs.Emission.{emit_named}
-use borrow.Author.Rules.{rules}
 use mathlib.Core.List.{[]}
 use mathlib.Core.Path.{◌∙◌, ap}
 use mir.Syntax.{w8}

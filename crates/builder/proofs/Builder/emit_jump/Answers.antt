@@ -2,7 +2,6 @@
 -- Assumes nothing.
 use Rattle.builder.proofs.JumpPlans.{emitted_jump, jump_goes}
 use Rattle.builder.specs.declared.plan.Plan.TheVariants.{Go, Idle, Refuse}
-use borrow.Author.Rules.{rules}
 use mathlib.Core.Path.{◌∙◌, sym}
 use Rattle.builder.proofs.Builder.emit_jump.Goals as goal
 

@@ -3,7 +3,6 @@
 use Rattle.builder.specs.Emission.{outcome_by}
 use Rattle.builder.specs.Back.{emit_jump_to_of}
 use mathlib.Core.Path.{ap}
-use borrow.Author.Rules.{rules}
 use Rattle.builder.proofs.Builder.emit_jump_to.Goals as goal
 
 pub returns-in_default : goal.returns-in_default

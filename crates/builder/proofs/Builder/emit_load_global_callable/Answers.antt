@@ -1,6 +1,5 @@
 -- `builder::Builder::emit_load_global_callable` meets its contract: the helper's promise, at the name's word.
 -- Assumes nothing.
-use borrow.Author.Rules.{rules}
 use Rattle.builder.proofs.Builder.emit_load_global_callable.Goals as goal
 
 pub returns : goal.returns

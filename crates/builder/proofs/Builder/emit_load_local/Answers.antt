@@ -1,6 +1,5 @@
 -- `builder::Builder::emit_load_local` meets its contract: its tests are the definition's.
 -- Assumes nothing.
-use borrow.Author.Rules.{rules}
 use borrow.Author.Tests.{le-leb, lt-leb}
 use Rattle.builder.proofs.Builder.emit_load_local.Goals as goal
 

@@ -1,6 +1,5 @@
 -- `builder::Builder::emit_numbered` meets its contract: 2 where there is no instruction, else what the helper promises.
 -- Assumes nothing.
-use borrow.Author.Rules.{rules}
 use Rattle.builder.proofs.ByNumber.{numbered_none, numbered_goes}
 use Rattle.builder.proofs.Builder.emit_numbered.Goals as goal
 

@@ -1,6 +1,5 @@
 -- `builder::Builder::emit_store_local` meets its contract: its test is the definition's.
 -- Assumes nothing.
-use borrow.Author.Rules.{rules}
 use borrow.Author.Tests.{le-leb, lt-leb}
 use Rattle.builder.proofs.Builder.emit_store_local.Goals as goal
 

@@ -3,7 +3,6 @@
 use Rattle.code.proofs.Putting.{put_front}
 use Rattle.builder.specs.State.{kept}
 use Rattle.builder.specs.Regions.{new_of}
-use borrow.Author.Rules.{rules}
 use borrow.Author.Tests.{le-ltb, lt-ltb}
 use mathlib.Core.Path.{ap, refl}
 use Rattle.builder.proofs.Builder.new.Goals as goal

@@ -1,7 +1,6 @@
 -- `builder::Builder::new_code_region` meets its contract: its tests are the definition's.
 -- Assumes nothing.
 use Rattle.builder.specs.Regions.{region_of}
-use borrow.Author.Rules.{rules}
 use borrow.Author.Tests.{le-leb, lt-leb}
 use Rattle.builder.proofs.Builder.new_code_region.Goals as goal
 

@@ -4,8 +4,6 @@ use Rattle.builder.proofs.PatchPlans.{markable_true, patch_writes, patched_row}
 use Rattle.builder.specs.Patch.{mark_plan_of, patch_jump_of, patch_plan_of}
 use Rattle.builder.specs.declared.marks.Mark.{Mark}
 use Rattle.builder.specs.declared.patch.PatchPlan.TheVariants.{Go, Idle, Refuse}
-use borrow.Author.Rules.{rules}
-use borrow.Author.Tests.{not-false, not-true}
 use Rattle.builder.specs.Marks.{mark_in, markable}
 use lib.ListN.{length}
 use mathlib.Core.Bool.{true}

@@ -5,7 +5,6 @@ use Prim.Native.Nat.{◌-◌}
 use Rattle.builder.proofs.Naming.{extension_fits}
 use Rattle.code.proofs.Putting.{put_lent}
 use Rattle.builder.specs.Names.{extension, register_name_of}
-use borrow.Author.Rules.{rules}
 use borrow.Author.Tests.{le-leb, le-ltb, lt-leb, lt-ltb}
 use lib.ListN.{length}
 use mathlib.Core.Path.{refl}

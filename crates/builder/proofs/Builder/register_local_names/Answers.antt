@@ -4,7 +4,6 @@
 use Rattle.code.proofs.Putting.{put_front}
 use Rattle.builder.specs.State.{kept}
 use Rattle.builder.specs.Names.{register_names_of}
-use borrow.Author.Rules.{rules}
 use borrow.Author.Tests.{eq-eqb, le-leb, lt-leb, ne_eqb}
 use mathlib.Core.Path.{ap}
 use Rattle.builder.proofs.Builder.register_local_names.Goals as goal

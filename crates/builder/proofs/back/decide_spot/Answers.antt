@@ -4,8 +4,7 @@ use Rattle.builder.proofs.JumpPlans.{back_live, near_true, same_jump}
 use Rattle.builder.specs.declared.plan.Plan.{Plan}
 use Rattle.op.specs.declared.Table.TheVariants.{Locations}
 use Rattle.code.specs.Bytes.{signed}
-use borrow.Author.Rules.{rules}
-use borrow.Author.Tests.{eq-eqb, ne_eqb, not-false, not-true}
+use borrow.Author.Tests.{eq-eqb, ne_eqb}
 use mathlib.Core.Path.{◌∙◌, ap, refl, sym}
 use native.Mathlib.Omega.{arith}
 use mir.Syntax.{w16}

@@ -4,8 +4,6 @@ use Rattle.builder.proofs.JumpPlans.{at_mark, to_enters, to_unsound}
 use Rattle.builder.proofs.Plans.{enters_as, line_enters, marks_sound}
 use Rattle.builder.specs.declared.JumpTarget.TheVariants as T
 use Rattle.builder.specs.declared.plan.Entered.TheVariants as E
-use borrow.Author.Rules.{rules}
-use borrow.Author.Tests.{not-false, not-true}
 use mathlib.Core.Path.{◌∙◌, refl, sym}
 use Rattle.builder.specs.Marks.{mark_in}
 use Rattle.builder.specs.Back.{to_asked}

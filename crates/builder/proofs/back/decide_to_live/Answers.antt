@@ -2,7 +2,6 @@
 -- Assumes nothing.
 use Rattle.builder.specs.Plan.{emitting_of}
 use mathlib.Core.Path.{◌∙◌, sym}
-use borrow.Author.Rules.{rules}
 use Rattle.builder.proofs.back.decide_to_live.Goals as goal
 
 pub returns-in-Refused : goal.returns-in-Refused

@@ -8,7 +8,6 @@ use Rattle.builder.specs.declared.plan.Entered.TheVariants as E
 use Rattle.builder.specs.declared.plan.Plan.TheVariants.{Idle, Refuse}
 use Rattle.op.specs.declared.Refusal.TheVariants.{DeadTarget}
 use mathlib.Core.Path.{◌∙◌, refl, sym}
-use borrow.Author.Rules.{rules}
 use Rattle.builder.specs.Back.{to_asked, to_plan_of}
 use Rattle.builder.proofs.back.jump_nowhere.Goals as goal
 

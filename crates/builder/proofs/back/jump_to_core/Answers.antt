@@ -5,7 +5,6 @@ use Rattle.code.specs.Tables.{put}
 use Rattle.builder.specs.declared.JumpTarget.TheVariants as T
 use Rattle.builder.specs.declared.plan.Plan.TheVariants.{Go, Idle, Refuse}
 use Rattle.code.specs.Encode.{encode}
-use borrow.Author.Rules.{rules}
 use mathlib.Core.List.{[]}
 use mathlib.Core.Path.{◌∙◌, ap, sym}
 use native.Mathlib.Omega.{arith}

@@ -4,7 +4,6 @@ use Prim.Native.Nat.{◌+◌, ◌≤◌}
 use Rattle.builder.proofs.Emitted.{written_put}
 use Rattle.code.proofs.Inverse.{length_encode}
 use Rattle.code.specs.Encode.{encode}
-use borrow.Author.Rules.{rules}
 use lib.ListN.{length}
 use native.Mathlib.Omega.{arith}
 use Rattle.builder.proofs.emission.commit.Goals as goal

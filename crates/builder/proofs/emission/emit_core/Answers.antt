@@ -3,7 +3,6 @@
 use Rattle.builder.proofs.Emitted.{emitted}
 use Rattle.builder.proofs.Plans.{goes, plan_goes}
 use Rattle.builder.specs.declared.plan.Plan.TheVariants.{Go, Idle, Refuse}
-use borrow.Author.Rules.{rules}
 use borrow.Author.Rules.{part_to_end}
 use mathlib.Core.Path.{◌∙◌, sym}
 use native.Mathlib.Omega.{arith}

@@ -1,7 +1,6 @@
 -- `builder::emission::emit_with_names` meets its contract: the state around the core's outcome.
 -- Assumes nothing.
 use Rattle.builder.specs.Emission.{emit_named, outcome_by}
-use borrow.Author.Rules.{rules}
 use mathlib.Core.Path.{ap}
 use Rattle.builder.proofs.emission.emit_with_names.Goals as goal
 

@@ -4,7 +4,6 @@ use Prim.Native.Nat.{◌*◌, ◌+◌, ◌≤◌}
 use Rattle.code.proofs.Putting.{put_lent}
 use Rattle.builder.specs.Marks.{mark_row, open_kind}
 use Rattle.code.specs.Tables.{mark_cells}
-use borrow.Author.Rules.{rules}
 use lib.ListN.{length}
 use mathlib.Core.Path.{refl}
 use native.Mathlib.Omega.{arith}

@@ -2,7 +2,6 @@
 -- Assumes nothing.
 use Rattle.builder.proofs.Plans.{enters_as, line_enters}
 use Rattle.builder.specs.declared.plan.Entered.TheVariants as E
-use borrow.Author.Rules.{rules}
 use mathlib.Core.Path.{sym}
 use Rattle.builder.specs.Forward.{jump_asked, jump_plan_of}
 use Rattle.builder.proofs.forward.decide_jump.Goals as goal

@@ -9,7 +9,6 @@ use Rattle.builder.specs.Locations.{row_fits}
 use Rattle.builder.specs.Plan.{emitting_of}
 use Rattle.builder.specs.Forward.{jump_asked, jump_plan_of}
 use Rattle.builder.specs.Inner.{also_row}
-use borrow.Author.Rules.{rules}
 use mathlib.Core.Path.{◌∙◌, ap, sym}
 use Rattle.builder.proofs.forward.decide_jump_live.Goals as goal
 

@@ -1,6 +1,5 @@
 -- `builder::locations::row_fits` meets its contract: an arm for each variant, and the definition's test.
 -- Assumes nothing.
-use borrow.Author.Rules.{rules}
 use mathlib.Core.Path.{refl}
 use Rattle.builder.proofs.locations.row_fits.Goals as goal
 

@@ -6,7 +6,6 @@ use Rattle.builder.proofs.Emitted.{set_arm}
 use Rattle.code.proofs.Putting.{length_lent, put_lent}
 use Rattle.code.specs.Locations.{location_at, location_numbers}
 use Rattle.code.specs.Tables.{location_cells}
-use borrow.Author.Rules.{rules}
 use borrow.Author.Tests.{ltb-true}
 use lib.ListN.{length}
 use native.Mathlib.Omega.{arith}

@@ -1,6 +1,5 @@
 -- `builder::locations::write_row` meets its contract: an arm for each variant.
 -- Assumes nothing.
-use borrow.Author.Rules.{rules}
 use Rattle.builder.proofs.locations.write_row.Goals as goal
 
 pub returns-in-Absent : goal.returns-in-Absent

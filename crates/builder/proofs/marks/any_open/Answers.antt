@@ -1,7 +1,7 @@
 -- `builder::marks::any_open` meets its contract: the invariant says what was found below `i`; the measure is what is
 -- left.
 -- Assumes nothing.
-use Prim.Native.Nat.{◌-◌, ◌≤◌, ℕ}
+use Prim.Native.Nat.{ℕ}
 use Rattle.builder.proofs.Naming.{open_more}
 use Rattle.builder.specs.Marks.{any_open}
 use mathlib.Core.Path.{◌∙◌, ◌≡◌, ap, refl}

@@ -1,8 +1,6 @@
-use Prim.Native.Nat.{◌-◌, ◌≤◌, ℕ}
-use Rattle.builder.proofs.Naming.{open_more}
+use Prim.Native.Nat.{◌-◌, ◌≤◌}
 use Rattle.builder.specs.Marks.{any_open}
-use mathlib.Core.Path.{◌∙◌, ◌≡◌, ap, refl}
-use native.Mathlib.Omega.{arith}
+use mathlib.Core.Path.{◌≡◌}
 use Rattle.builder.proofs.marks.any_open.Given as goal
 
 abbrev pub invariant-loop-i : goal.invariant-loop-i

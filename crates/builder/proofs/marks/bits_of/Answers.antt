@@ -1,7 +1,6 @@
 -- `builder::marks::bits_of` meets its contract: the definition's sum.
 -- Assumes nothing.
 use Rattle.builder.specs.Marks.{bits}
-use borrow.Author.Rules.{rules}
 use mathlib.Core.Path.{refl}
 use Rattle.builder.proofs.marks.bits_of.Goals as goal
 

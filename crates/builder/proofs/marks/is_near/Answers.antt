@@ -1,7 +1,6 @@
 -- `builder::marks::is_near` meets its contract: its tests are the definition's.
 -- Assumes nothing.
 use Rattle.builder.specs.Marks.{near}
-use borrow.Author.Rules.{rules}
 use borrow.Author.Tests.{le-leb, lt-leb}
 use Rattle.builder.proofs.marks.is_near.Goals as goal
 

@@ -1,7 +1,6 @@
 -- `builder::marks::mark_in` meets its contract: its test is the definition's.
 -- Assumes nothing.
 use Rattle.builder.specs.Marks.{mark_in}
-use borrow.Author.Rules.{rules}
 use borrow.Author.Tests.{le-ltb, lt-ltb}
 use Rattle.builder.proofs.marks.mark_in.Goals as goal
 

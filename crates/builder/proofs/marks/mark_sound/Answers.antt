@@ -1,6 +1,5 @@
 -- `builder::marks::mark_sound` meets its contract: an arm for each variant.
 -- Assumes nothing.
-use borrow.Author.Rules.{rules}
 use Rattle.builder.proofs.marks.mark_sound.Goals as goal
 
 pub returns-in-Open : goal.returns-in-Open

@@ -5,7 +5,6 @@ use Prim.Native.Nat.{◌*◌, ◌+◌, ◌≤◌}
 use Rattle.code.proofs.Putting.{put_lent}
 use Rattle.builder.specs.Marks.{mark_row, target_kind}
 use Rattle.code.specs.Tables.{mark_cells}
-use borrow.Author.Rules.{rules}
 use borrow.Author.Tests.{le-ltb, lt-ltb}
 use lib.ListN.{length}
 use mathlib.Core.Path.{refl}

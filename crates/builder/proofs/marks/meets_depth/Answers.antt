@@ -1,6 +1,5 @@
 -- `builder::marks::meets_depth` meets its contract: an arm for each variant.
 -- Assumes nothing.
-use borrow.Author.Rules.{rules}
 use mathlib.Core.Path.{refl}
 use Rattle.builder.proofs.marks.meets_depth.Goals as goal
 

@@ -1,6 +1,5 @@
 -- `builder::marks::revive` meets its contract: an arm for each variant.
 -- Assumes nothing.
-use borrow.Author.Rules.{rules}
 use mathlib.Core.Path.{refl}
 use Rattle.builder.proofs.marks.revive.Goals as goal
 

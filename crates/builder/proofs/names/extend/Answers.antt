@@ -1,11 +1,9 @@
 -- `builder::names::extend` meets its contract: the invariant says that absent slots stand at the front; the measure
 -- is what is left of them.
 -- Assumes nothing.
-use Prim.Native.Nat.{◌-◌, ◌≤◌}
 use Rattle.builder.proofs.Naming.{absent_more, absent_name}
-use Rattle.code.specs.Bytes.{front}
-use lib.ListN.{length, length-set, replicate}
-use mathlib.Core.Path.{◌≡◌, refl}
+use lib.ListN.{length-set}
+use mathlib.Core.Path.{refl}
 use native.Mathlib.Omega.{arith}
 use Rattle.builder.proofs.names.extend.Goals as goal
 

@@ -1,9 +1,7 @@
 use Prim.Native.Nat.{◌-◌, ◌≤◌}
-use Rattle.builder.proofs.Naming.{absent_more, absent_name}
 use Rattle.code.specs.Bytes.{front}
-use lib.ListN.{length, length-set, replicate}
-use mathlib.Core.Path.{◌≡◌, refl}
-use native.Mathlib.Omega.{arith}
+use lib.ListN.{length, replicate}
+use mathlib.Core.Path.{◌≡◌}
 use Rattle.builder.proofs.names.extend.Given as goal
 
 abbrev pub invariant-loop-i : goal.invariant-loop-i

@@ -1,11 +1,10 @@
 -- `builder::names::fill_absent` meets its contract: the invariant says that the cells passed are filled, and the
 -- others as they were; the measure is what is left.
 -- Assumes nothing.
-use Prim.Native.Nat.{◌-◌, ◌≤◌, ℕ}
+use Prim.Native.Nat.{ℕ}
 use Rattle.builder.proofs.Naming.{front_rest, map_all, map_more, map_own, passed}
 use Rattle.builder.specs.Names.{named}
-use Rattle.code.specs.Bytes.{front}
-use lib.ListN.{get_or, length, length-set, take}
+use lib.ListN.{get_or, length-set, take}
 use mathlib.Core.List.{map}
 use mathlib.Core.Path.{◌∙◌, ◌≡◌, refl}
 use native.Mathlib.Omega.{arith}

@@ -1,11 +1,9 @@
 use Prim.Native.Nat.{◌-◌, ◌≤◌, ℕ}
-use Rattle.builder.proofs.Naming.{front_rest, map_all, map_more, map_own, passed}
 use Rattle.builder.specs.Names.{named}
 use Rattle.code.specs.Bytes.{front}
-use lib.ListN.{get_or, length, length-set, take}
+use lib.ListN.{length, take}
 use mathlib.Core.List.{map}
-use mathlib.Core.Path.{◌∙◌, ◌≡◌, refl}
-use native.Mathlib.Omega.{arith}
+use mathlib.Core.Path.{◌≡◌}
 use Rattle.builder.proofs.names.fill_absent.Given as goal
 
 abbrev pub invariant-loop-i : goal.invariant-loop-i

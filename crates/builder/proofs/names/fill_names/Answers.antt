@@ -1,13 +1,10 @@
 -- `builder::names::fill_names` meets its contract: the invariant says that the cells of the names passed stand at the
 -- front; the measure is what is left.
 -- Assumes nothing.
-use Prim.Native.Nat.{◌-◌, ◌≤◌}
 use Rattle.builder.proofs.Naming.{map_all, map_more}
 use Rattle.builder.specs.Names.{name_cell}
-use Rattle.code.specs.Bytes.{front}
-use lib.ListN.{length, length-set, take}
-use mathlib.Core.List.{map}
-use mathlib.Core.Path.{◌∙◌, ◌≡◌, refl}
+use lib.ListN.{length-set}
+use mathlib.Core.Path.{◌∙◌, refl}
 use native.Mathlib.Omega.{arith}
 use Rattle.builder.proofs.names.fill_names.Goals as goal
 

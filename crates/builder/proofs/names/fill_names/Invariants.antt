@@ -1,11 +1,9 @@
 use Prim.Native.Nat.{◌-◌, ◌≤◌}
-use Rattle.builder.proofs.Naming.{map_all, map_more}
 use Rattle.builder.specs.Names.{name_cell}
 use Rattle.code.specs.Bytes.{front}
-use lib.ListN.{length, length-set, take}
+use lib.ListN.{length, take}
 use mathlib.Core.List.{map}
-use mathlib.Core.Path.{◌∙◌, ◌≡◌, refl}
-use native.Mathlib.Omega.{arith}
+use mathlib.Core.Path.{◌≡◌}
 use Rattle.builder.proofs.names.fill_names.Given as goal
 
 abbrev pub invariant-loop-i : goal.invariant-loop-i

@@ -1,6 +1,5 @@
 -- `builder::names::named_cell` meets its contract: its test is the definition's.
 -- Assumes nothing.
-use borrow.Author.Rules.{rules}
 use borrow.Author.Tests.{eq-eqb, ne_eqb}
 use Rattle.builder.proofs.names.named_cell.Goals as goal
 

@@ -1,7 +1,6 @@
 -- `builder::numbered::byte` meets its contract: its test is the definition's.
 -- Assumes nothing.
 use borrow.Author.Tests.{lt-ltb, le-ltb}
-use borrow.Author.Rules.{rules}
 use Rattle.builder.proofs.numbered.byte.Goals as goal
 
 pub returns-then-a-lt256 : goal.returns-then-a-lt256

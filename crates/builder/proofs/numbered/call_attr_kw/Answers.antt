@@ -1,7 +1,6 @@
 -- `builder::numbered::call_attr_kw` meets its contract: its test is the definition's.
 -- Assumes nothing.
 use borrow.Author.Tests.{lt-ltb, le-ltb}
-use borrow.Author.Rules.{rules}
 use Rattle.builder.proofs.numbered.call_attr_kw.Goals as goal
 
 pub returns-then-b-lt256 : goal.returns-then-b-lt256

@@ -1,7 +1,6 @@
 -- `builder::numbered::call_kw` meets its contract: its test is the definition's.
 -- Assumes nothing.
 use borrow.Author.Tests.{lt-ltb, le-ltb}
-use borrow.Author.Rules.{rules}
 use Rattle.builder.proofs.numbered.call_kw.Goals as goal
 
 pub returns-then-a-lt256 : goal.returns-then-a-lt256

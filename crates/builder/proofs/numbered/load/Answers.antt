@@ -1,7 +1,6 @@
 -- `builder::numbered::load` meets its contract: its tests are the definition's.
 -- Assumes nothing.
 use borrow.Author.Tests.{le-leb, lt-leb}
-use borrow.Author.Rules.{rules}
 use Rattle.builder.proofs.numbered.load.Goals as goal
 
 pub returns-then-slot-le3 : goal.returns-then-slot-le3

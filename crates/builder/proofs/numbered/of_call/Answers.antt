@@ -8,7 +8,6 @@ use Rattle.base.proofs.Keys.{at, past}
 use Rattle.builder.specs.Numbered.{instruction_of}
 use Rattle.builder.specs.declared.numbered.Instruction.TheVariants.{Is}
 use Rattle.builder.proofs.ByNumber.{no_call}
-use borrow.Author.Rules.{rules}
 use Rattle.builder.proofs.numbered.of_call.Goals as goal
 
 pub returns-in-0 : goal.returns-in-0

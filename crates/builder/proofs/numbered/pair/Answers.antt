@@ -1,7 +1,6 @@
 -- `builder::numbered::pair` meets its contract: its tests are the definition's.
 -- Assumes nothing.
 use borrow.Author.Tests.{lt-ltb, le-ltb}
-use borrow.Author.Rules.{rules}
 use Rattle.builder.proofs.numbered.pair.Goals as goal
 
 pub returns-then-b-lt256 : goal.returns-then-b-lt256

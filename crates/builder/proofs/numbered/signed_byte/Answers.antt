@@ -8,7 +8,6 @@ use borrow.Author.Tests.{le-ltb}
 use Rattle.op.specs.declared.Operand.TheVariants.{I8}
 use Rattle.builder.specs.declared.numbered.Instruction.TheVariants.{Is}
 use Rattle.builder.proofs.ByNumber.{fits}
-use borrow.Author.Rules.{rules}
 use Rattle.builder.proofs.numbered.signed_byte.Goals as goal
 
 pub returns-then-a-lt256 : goal.returns-then-a-lt256

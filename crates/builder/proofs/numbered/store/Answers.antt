@@ -1,7 +1,6 @@
 -- `builder::numbered::store` meets its contract: its test is the definition's.
 -- Assumes nothing.
 use borrow.Author.Tests.{le-leb, lt-leb}
-use borrow.Author.Rules.{rules}
 use Rattle.builder.proofs.numbered.store.Goals as goal
 
 pub returns-then-slot-le255 : goal.returns-then-slot-le255

@@ -1,7 +1,6 @@
 -- `builder::numbered::word_byte` meets its contract: its test is the definition's.
 -- Assumes nothing.
 use borrow.Author.Tests.{lt-ltb, le-ltb}
-use borrow.Author.Rules.{rules}
 use Rattle.builder.proofs.numbered.word_byte.Goals as goal
 
 pub returns-then-b-lt256 : goal.returns-then-b-lt256

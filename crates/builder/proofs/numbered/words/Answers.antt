@@ -1,7 +1,6 @@
 -- `builder::numbered::words` meets its contract: its test is the definition's.
 -- Assumes nothing.
 use borrow.Author.Tests.{lt-ltb, le-ltb}
-use borrow.Author.Rules.{rules}
 use Rattle.builder.proofs.numbered.words.Goals as goal
 
 pub returns-then-b-lt65536 : goal.returns-then-b-lt65536

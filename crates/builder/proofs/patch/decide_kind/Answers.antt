@@ -1,7 +1,6 @@
 -- `builder::patch::decide_kind` meets its contract: an arm for each variant.
 -- Assumes nothing.
 use Rattle.builder.proofs.PatchPlans.{fits_true}
-use borrow.Author.Rules.{rules}
 use mathlib.Core.Path.{refl}
 use Rattle.builder.proofs.patch.decide_kind.Goals as goal
 

@@ -1,8 +1,6 @@
 -- `builder::patch::decide_mark` meets its contract: its test is the definition's.
 -- Assumes nothing.
 use Rattle.builder.specs.Patch.{mark_plan_of}
-use borrow.Author.Rules.{rules}
-use borrow.Author.Tests.{not-false, not-true}
 use mathlib.Core.Path.{◌∙◌, sym}
 use Rattle.builder.proofs.patch.decide_mark.Goals as goal
 

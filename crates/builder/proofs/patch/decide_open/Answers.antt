@@ -1,8 +1,6 @@
 -- `builder::patch::decide_open` meets its contract: its tests are the definition's.
 -- Assumes nothing.
 use Rattle.builder.proofs.JumpPlans.{near_true}
-use borrow.Author.Rules.{rules}
-use borrow.Author.Tests.{not-false, not-true}
 use mathlib.Core.Path.{◌∙◌, refl, sym}
 use native.Mathlib.Omega.{arith}
 use Rattle.builder.proofs.patch.decide_open.Goals as goal

@@ -1,6 +1,5 @@
 -- `builder::plan::also_location` meets its contract: the callee's promise at the row's test.
 -- Assumes nothing.
-use borrow.Author.Rules.{rules}
 use Rattle.builder.proofs.plan.also_location.Goals as goal
 
 pub returns : goal.returns

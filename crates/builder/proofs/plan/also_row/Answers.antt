@@ -1,6 +1,5 @@
 -- `builder::plan::also_row` meets its contract: an arm for each variant, and the definition's test.
 -- Assumes nothing.
-use borrow.Author.Rules.{rules}
 use mathlib.Core.Path.{refl}
 use Rattle.builder.proofs.plan.also_row.Goals as goal
 

@@ -1,7 +1,6 @@
 -- `builder::plan::behind_op` meets its contract: its test is the definition's.
 -- Assumes nothing.
 use Rattle.builder.specs.Plan.{behind}
-use borrow.Author.Rules.{rules}
 use mathlib.Core.Path.{◌∙◌, sym}
 use Rattle.builder.proofs.plan.behind_op.Goals as goal
 

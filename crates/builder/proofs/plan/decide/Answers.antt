@@ -5,7 +5,6 @@ use Rattle.builder.specs.declared.plan.Entered.TheVariants as E
 use Rattle.builder.specs.declared.plan.Plan.{Plan}
 use Rattle.op.specs.declared.Table.TheVariants.{Locations}
 use mathlib.Core.Path.{◌∙◌, ap, sym}
-use borrow.Author.Rules.{rules}
 use Rattle.builder.specs.Locations.{row_fits}
 use Rattle.builder.specs.Plan.{plain_asked, plan_of}
 use Rattle.builder.specs.Inner.{also_row}

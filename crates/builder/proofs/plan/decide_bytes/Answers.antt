@@ -1,7 +1,6 @@
 -- `builder::plan::decide_bytes` meets its contract: its tests are the definition's, and the depths are op's.
 -- Assumes nothing.
 use Rattle.builder.specs.Inner.{bytes_of}
-use borrow.Author.Rules.{rules}
 use borrow.Author.Tests.{eq-eqb, le-leb, lt-leb, ne_eqb}
 use mathlib.Core.Path.{◌∙◌, sym}
 use Rattle.builder.proofs.plan.decide_bytes.Goals as goal

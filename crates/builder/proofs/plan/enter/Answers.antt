@@ -2,8 +2,7 @@
 -- Assumes nothing.
 use Rattle.builder.specs.Plan.{enter_of}
 use Rattle.op.specs.Opcodes.{known}
-use borrow.Author.Tests.{le-leb, lt-leb, not-false, not-true}
-use borrow.Author.Rules.{rules}
+use borrow.Author.Tests.{le-leb, lt-leb}
 use Rattle.builder.proofs.plan.enter.Goals as goal
 
 pub returns-then-not-sound : goal.returns-then-not-sound

@@ -1,7 +1,6 @@
 -- `builder::plan::room` meets its contract: its tests are the definition's.
 -- Assumes nothing.
 use Rattle.builder.specs.Inner.{room_of}
-use borrow.Author.Rules.{rules}
 use borrow.Author.Tests.{le-leb, lt-leb}
 use Rattle.builder.proofs.plan.room.Goals as goal
 

@@ -1,7 +1,6 @@
 -- `builder::plan::sound_with_marks` meets its contract: its tests are the definition's.
 -- Assumes nothing.
 use borrow.Author.Tests.{le-leb, lt-leb}
-use borrow.Author.Rules.{rules}
 use Rattle.builder.proofs.plan.sound_with_marks.Goals as goal
 
 pub returns-then-ml-core : goal.returns-then-ml-core

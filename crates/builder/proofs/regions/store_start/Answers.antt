@@ -4,7 +4,6 @@
 use Prim.Native.Nat.{◌*◌, ◌+◌, ◌≤◌}
 use Rattle.code.proofs.Putting.{put_lent}
 use Rattle.code.specs.Tables.{start_cells}
-use borrow.Author.Rules.{rules}
 use borrow.Author.Tests.{le-ltb, lt-ltb}
 use lib.ListN.{length}
 use mathlib.Core.List.{[], ◌∷◌}

@@ -1,6 +1,5 @@
 -- `builder::state::answer_by` meets its contract: an arm for each variant.
 -- Assumes nothing.
-use borrow.Author.Rules.{rules}
 use mathlib.Core.Path.{refl}
 use Rattle.builder.proofs.state.answer_by.Goals as goal
 

@@ -1,7 +1,6 @@
 -- `builder::tables::put2` meets its contract: two stores from the front on.
 -- Assumes nothing.
 use Rattle.code.proofs.Stores.{sets_front}
-use borrow.Author.Rules.{rules}
 use mathlib.Core.List.{[], ◌∷◌}
 use Rattle.builder.proofs.tables.put2.Goals as goal
 

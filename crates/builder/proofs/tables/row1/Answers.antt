@@ -1,7 +1,6 @@
 -- `builder::tables::row1` meets its contract: one store at the front.
 -- Assumes nothing.
 use Rattle.code.proofs.Stores.{sets_front}
-use borrow.Author.Rules.{rules}
 use mathlib.Core.List.{[], ◌∷◌}
 use Rattle.builder.proofs.tables.row1.Goals as goal
 

@@ -1,7 +1,6 @@
 -- `builder::tables::row4` meets its contract: four stores from the front on.
 -- Assumes nothing.
 use Rattle.code.proofs.Stores.{sets_front}
-use borrow.Author.Rules.{rules}
 use lib.ListN.{length-set}
 use mathlib.Core.List.{[], ◌∷◌}
 use native.Mathlib.Omega.{arith}

@@ -1,7 +1,6 @@
 -- `calls::reading::depth_in` meets its contract: its tests are the definition's.
 -- Assumes nothing.
 use borrow.Author.Tests.{lt-ltb, le-ltb, eq-eqb, ne_eqb}
-use borrow.Author.Rules.{rules}
 use Rattle.calls.proofs.reading.depth_in.Goals as goal
 
 pub returns-then-number-lt-DEAD_DEPTH : goal.returns-then-number-lt-DEAD_DEPTH

@@ -1,7 +1,6 @@
 -- `calls::reading::location_in` meets its contract: its tests are the definition's.
 -- Assumes nothing.
 use borrow.Author.Tests.{le-leb, lt-leb, eq-eqb, ne_eqb}
-use borrow.Author.Rules.{rules}
 use Rattle.calls.proofs.reading.location_in.Goals as goal
 
 pub returns-then-set-eq0 : goal.returns-then-set-eq0

@@ -1,7 +1,6 @@
 -- `calls::reading::state_in` meets its contract: too few cells, no depth, or what was read of depth and location.
 -- Assumes nothing.
 use Rattle.calls.proofs.Held.{too_few, no_depth_lem, read}
-use borrow.Author.Rules.{rules}
 use Rattle.calls.proofs.reading.state_in.Goals as goal
 
 pub returns-then-cells-lt-STATE_CELLS : goal.returns-then-cells-lt-STATE_CELLS

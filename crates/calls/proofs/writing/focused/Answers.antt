@@ -1,7 +1,6 @@
 -- `calls::writing::focused` meets its contract: an arm for each variant.
 -- Assumes nothing.
 use mathlib.Core.Path.{refl}
-use borrow.Author.Rules.{rules}
 use Rattle.calls.proofs.writing.focused.Goals as goal
 
 pub returns-in-Absent : goal.returns-in-Absent

@@ -1,7 +1,6 @@
 -- `calls::writing::leave_core` meets its contract: a core is written, or nothing is.
 -- Assumes nothing.
 use mathlib.Core.Path.{refl}
-use borrow.Author.Rules.{rules}
 use Rattle.calls.proofs.writing.leave_core.Goals as goal
 
 pub returns-in-Accepted : goal.returns-in-Accepted

@@ -2,7 +2,6 @@
 -- Assumes nothing.
 use mathlib.Core.Path.{refl, sym, ap, ◌∙◌}
 use Rattle.calls.specs.State.{place_of}
-use borrow.Author.Rules.{rules}
 use Rattle.calls.proofs.writing.place_of.Goals as goal
 
 pub returns-in-Unset : goal.returns-in-Unset

@@ -8,7 +8,6 @@ use lib.ListN.{length, length-set}
 use Rattle.code.specs.Bytes.{front}
 use Rattle.code.proofs.Stores.{sets_front}
 use Rattle.calls.proofs.Looking.{looked}
-use borrow.Author.Rules.{rules}
 use Rattle.calls.proofs.writing.tell.Goals as goal
 
 pub bounds-out-1 : goal.bounds-out-1

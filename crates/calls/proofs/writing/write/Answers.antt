@@ -5,7 +5,6 @@ use Prim.Native.Nat.{◌≤◌}
 use lib.ListN.{length, length-set}
 use mathlib.Core.List.{[], ◌∷◌}
 use Rattle.code.proofs.Stores.{sets_front}
-use borrow.Author.Rules.{rules}
 use Rattle.calls.proofs.writing.write.Goals as goal
 
 pub bounds-cells-1 : goal.bounds-cells-1

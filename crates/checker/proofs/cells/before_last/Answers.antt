@@ -2,7 +2,6 @@
 -- Assumes nothing.
 use native.Mathlib.Omega.{arith}
 use Rattle.checker.proofs.Holding.{held_before, held_same}
-use borrow.Author.Rules.{rules}
 use Rattle.checker.proofs.cells.before_last.Goals as goal
 
 pub overflow_sub-result : goal.overflow_sub-result

@@ -1,12 +1,11 @@
 -- `checker::cells::greatest` meets its contract: the loop's invariant: the greatest so far and the cells from o on give
 -- the greatest of all.
 -- Assumes nothing.
-use mathlib.Core.Path.{◌≡◌, refl, sym, ap, ◌∙◌}
-use Prim.Native.Nat.{ℕ, ◌+◌, ◌-◌, ◌≤◌}
+use mathlib.Core.Path.{refl, sym, ap, ◌∙◌}
+use Prim.Native.Nat.{ℕ, ◌+◌}
 use native.Mathlib.Omega.{arith}
-use lib.ListN.{length, drop}
-use borrow.Author.Rules.{rules}
-use Rattle.checker.specs.Inner.{greatest_from, greatest_in}
+use lib.ListN.{drop}
+use Rattle.checker.specs.Inner.{greatest_from}
 use Rattle.checker.proofs.Deepest.{greatest_on, greatest_over}
 use Rattle.checker.proofs.cells.greatest.Goals as goal
 

@@ -1,10 +1,7 @@
-use mathlib.Core.Path.{◌≡◌, refl, sym, ap, ◌∙◌}
-use Prim.Native.Nat.{ℕ, ◌+◌, ◌-◌, ◌≤◌}
-use native.Mathlib.Omega.{arith}
+use mathlib.Core.Path.{◌≡◌}
+use Prim.Native.Nat.{◌-◌, ◌≤◌}
 use lib.ListN.{length, drop}
-use borrow.Author.Rules.{rules}
 use Rattle.checker.specs.Inner.{greatest_from, greatest_in}
-use Rattle.checker.proofs.Deepest.{greatest_on, greatest_over}
 use Rattle.checker.proofs.cells.greatest.Given as goal
 
 abbrev pub invariant-loop-o : goal.invariant-loop-o

@@ -1,10 +1,8 @@
 -- `checker::lists::begin` meets its contract: the loop's invariant: the first k starts have their depths, and the
 -- depths are sound.
 -- Assumes nothing.
-use Prim.Native.Nat.{◌-◌, ◌≤◌}
 use native.Mathlib.Omega.{arith}
-use borrow.Author.Rules.{rules}
-use Rattle.checker.proofs.Draining.{Beginning, beginning_none, beginning_on, begun_stuck, begun_on}
+use Rattle.checker.proofs.Draining.{beginning_none, beginning_on, begun_stuck, begun_on}
 use Rattle.checker.proofs.lists.begin.Goals as goal
 
 pub loop-k-init : goal.loop-k-init

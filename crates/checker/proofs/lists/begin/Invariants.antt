@@ -1,7 +1,5 @@
 use Prim.Native.Nat.{◌-◌, ◌≤◌}
-use native.Mathlib.Omega.{arith}
-use borrow.Author.Rules.{rules}
-use Rattle.checker.proofs.Draining.{Beginning, beginning_none, beginning_on, begun_stuck, begun_on}
+use Rattle.checker.proofs.Draining.{Beginning}
 use Rattle.checker.proofs.lists.begin.Given as goal
 
 abbrev pub invariant-loop-k : goal.invariant-loop-k

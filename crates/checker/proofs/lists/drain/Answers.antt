@@ -1,12 +1,7 @@
 -- `checker::lists::drain` meets its contract: the loop's invariant: what has a depth is respected or waits, and the
 -- places visited and those that wait are as many as have a depth. What falls: the cells less the places visited.
 -- Assumes nothing.
-use Prim.Native.Nat.{◌-◌}
 use native.Mathlib.Omega.{arith}
-use lib.ListN.{length}
-use borrow.Author.Rules.{rules}
-use Rattle.op.specs.Opcodes.{last_opcode}
-use Rattle.checker.specs.Inner.{Draining}
 use Rattle.checker.proofs.Draining.{draining_none, last_inside, took_in_hand, drained_stuck, drained_on}
 use Rattle.checker.proofs.Draining.{drained_less, drained}
 use Rattle.checker.proofs.lists.drain.Goals as goal

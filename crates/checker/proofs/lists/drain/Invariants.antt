@@ -1,11 +1,7 @@
 use Prim.Native.Nat.{◌-◌}
-use native.Mathlib.Omega.{arith}
 use lib.ListN.{length}
-use borrow.Author.Rules.{rules}
 use Rattle.op.specs.Opcodes.{last_opcode}
 use Rattle.checker.specs.Inner.{Draining}
-use Rattle.checker.proofs.Draining.{draining_none, last_inside, took_in_hand, drained_stuck, drained_on}
-use Rattle.checker.proofs.Draining.{drained_less, drained}
 use Rattle.checker.proofs.lists.drain.Given as goal
 
 abbrev pub invariant-loop-top : goal.invariant-loop-top

@@ -4,7 +4,6 @@ use native.Mathlib.Omega.{arith}
 use Rattle.code.proofs.Places.{stands_size}
 use Rattle.checker.proofs.Growing.{passes_map}
 use Rattle.checker.proofs.Draining.{deep_inside, flow_stands, flow_end, flow_fault, expanded_none, expanded}
-use borrow.Author.Rules.{rules}
 use Rattle.checker.proofs.lists.expand.Goals as goal
 
 pub offset_bounds-cells-at : goal.offset_bounds-cells-at

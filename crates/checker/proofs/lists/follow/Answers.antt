@@ -1,14 +1,9 @@
 -- `checker::lists::follow` meets its contract: the loop's invariant: a place is in hand, and all else that has a depth
 -- is respected or waits. What falls: the cells less the places visited.
 -- Assumes nothing.
-use Prim.Native.Nat.{◌-◌, ◌≤◌}
 use native.Mathlib.Omega.{arith}
-use lib.ListN.{length}
-use Rattle.op.specs.Opcodes.{last_opcode}
-use Rattle.checker.specs.Inner.{InHand}
 use Rattle.checker.proofs.Draining.{took_ready, took_deep, followed_rests, followed_stuck, followed_holds}
 use Rattle.checker.proofs.Draining.{draining_fits}
-use borrow.Author.Rules.{rules}
 use Rattle.checker.proofs.lists.follow.Goals as goal
 
 pub loop-t-init : goal.loop-t-init

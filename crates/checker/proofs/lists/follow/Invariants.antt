@@ -1,11 +1,7 @@
 use Prim.Native.Nat.{◌-◌, ◌≤◌}
-use native.Mathlib.Omega.{arith}
 use lib.ListN.{length}
 use Rattle.op.specs.Opcodes.{last_opcode}
 use Rattle.checker.specs.Inner.{InHand}
-use Rattle.checker.proofs.Draining.{took_ready, took_deep, followed_rests, followed_stuck, followed_holds}
-use Rattle.checker.proofs.Draining.{draining_fits}
-use borrow.Author.Rules.{rules}
 use Rattle.checker.proofs.lists.follow.Given as goal
 
 abbrev pub invariant-loop-t : goal.invariant-loop-t

@@ -7,7 +7,6 @@ use lib.ListN.{length}
 use Rattle.code.proofs.Places.{place_le}
 use Rattle.checker.proofs.Holding.{all_size}
 use Rattle.checker.proofs.Draining.{came_stuck, loaded, came}
-use borrow.Author.Rules.{rules}
 use Rattle.checker.proofs.lists.reach.Goals as goal
 
 pub begin-begun-requires : goal.begin-begun-requires

@@ -1,7 +1,6 @@
 -- `checker::lists::take` meets its contract: what is left of the cell is its mark.
 -- Assumes nothing.
 use Rattle.checker.proofs.Draining.{took}
-use borrow.Author.Rules.{rules}
 use Rattle.checker.proofs.lists.take.Goals as goal
 
 pub returns : goal.returns

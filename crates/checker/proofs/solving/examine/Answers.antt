@@ -5,7 +5,6 @@ use mathlib.Core.Logic.{inl}
 use Prim.Native.Nat.{suc}
 use native.Mathlib.Omega.{arith}
 use lib.ListN.{length}
-use borrow.Author.Rules.{rules}
 use Rattle.op.specs.Opcodes.{last_opcode}
 use Rattle.checker.specs.declared.Walk.{Walk}
 use Rattle.checker.specs.Inner.{Walked}

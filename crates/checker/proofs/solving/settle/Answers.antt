@@ -2,7 +2,6 @@
 -- Assumes nothing.
 use mathlib.Core.Path.{refl}
 use mathlib.Core.Logic.{inr}
-use borrow.Author.Rules.{rules}
 use Rattle.checker.proofs.Walking.{marked_marks}
 use Rattle.checker.proofs.solving.settle.Goals as goal
 

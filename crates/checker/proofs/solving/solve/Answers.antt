@@ -4,7 +4,6 @@ use mathlib.Core.Path.{◌≡◌, ap, ◌∙◌}
 use Prim.Native.Nat.{ℕ, suc}
 use native.Mathlib.Omega.{arith}
 use lib.ListN.{length, replicate}
-use borrow.Author.Rules.{rules}
 use Rattle.checker.proofs.Walking.{marked_marks, marked_ready}
 use Rattle.checker.proofs.Solutions.{solution}
 use Rattle.checker.proofs.solving.solve.Goals as goal

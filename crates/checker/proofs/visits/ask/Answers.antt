@@ -1,7 +1,6 @@
 -- `checker::visits::ask` meets its contract: what would be in hand is put on the list.
 -- Assumes nothing.
 use Rattle.checker.proofs.Visiting.{asked_rests, asked_stuck, room_in_hand, asked_put}
-use borrow.Author.Rules.{rules}
 use Rattle.checker.proofs.visits.ask.Goals as goal
 
 pub put-requires : goal.put-requires

@@ -3,7 +3,6 @@
 -- Assumes nothing.
 use Rattle.checker.proofs.Growing.{passes_map}
 use Rattle.checker.proofs.Visiting.{fell_out, fell_on, fell_stop}
-use borrow.Author.Rules.{rules}
 use Rattle.checker.proofs.visits.fall.Goals as goal
 
 pub returns-then-behind-gt-WORD_MAX : goal.returns-then-behind-gt-WORD_MAX

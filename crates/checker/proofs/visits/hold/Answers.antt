@@ -1,7 +1,6 @@
 -- `checker::visits::hold` meets its contract: one law of Visiting for each return, with any list.
 -- Assumes nothing.
 use Rattle.checker.proofs.Visiting.{asked_same, asked_clash, asked_fresh}
-use borrow.Author.Rules.{rules}
 use Rattle.checker.proofs.visits.hold.Goals as goal
 
 pub returns-then-was-d : goal.returns-then-was-d

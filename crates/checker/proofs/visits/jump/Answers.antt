@@ -1,9 +1,7 @@
 -- `checker::visits::jump` meets its contract: the mark, the landing, then what the target is asked.
 -- Assumes nothing.
 use mathlib.Core.Path.{sym, ◌∙◌}
-use borrow.Author.Tests.{not-true, not-false}
 use Rattle.checker.proofs.Visiting.{jumped_astray, target_inside, jumped_out, jumped_on}
-use borrow.Author.Rules.{rules}
 use Rattle.checker.proofs.visits.jump.Goals as goal
 
 pub returns-then-not-marked : goal.returns-then-not-marked

@@ -2,7 +2,6 @@
 -- Assumes nothing.
 use Prim.Native.Nat.{◌+◌, ◌-◌}
 use native.Mathlib.Omega.{arith}
-use borrow.Author.Rules.{rules}
 use Rattle.checker.proofs.Visiting.{landed_low, landed_high, landed}
 use Rattle.checker.proofs.visits.land.Goals as goal
 

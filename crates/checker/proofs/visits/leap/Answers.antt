@@ -1,7 +1,6 @@
 -- `checker::visits::leap` meets its contract: one law of Visiting for each kind of goal.
 -- Assumes nothing.
 use Rattle.checker.proofs.Visiting.{jumped_not, jumped_outside}
-use borrow.Author.Rules.{rules}
 use Rattle.checker.proofs.visits.leap.Goals as goal
 
 pub returns-in-Nowhere : goal.returns-in-Nowhere

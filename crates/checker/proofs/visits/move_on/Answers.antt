@@ -1,9 +1,7 @@
 -- `checker::visits::move_on` meets its contract: the jump, then the fall through.
 -- Assumes nothing.
-use native.Mathlib.Omega.{arith}
 use Rattle.checker.proofs.Growing.{passes_map}
 use Rattle.checker.proofs.Visiting.{moved_stuck, moved_ready, moved_on}
-use borrow.Author.Rules.{rules}
 use Rattle.checker.proofs.visits.move_on.Goals as goal
 
 pub returns-in-Stuck : goal.returns-in-Stuck

@@ -2,14 +2,12 @@
 -- and only places, are marked.
 -- Assumes nothing.
 use mathlib.Core.Path.{refl, sym, subst}
-use Prim.Native.Nat.{◌-◌}
 use native.Mathlib.Omega.{arith}
-use lib.ListN.{length, set, length-set}
-use borrow.Author.Rules.{rules}
+use lib.ListN.{set, length-set}
 use Rattle.op.specs.Opcodes.{last_opcode}
 use Rattle.checker.specs.declared.Walk.{Walk}
 use Rattle.checker.specs.Inner.{place_mark, Sized, Walked}
-use Rattle.checker.proofs.Walking.{sized_in_code, sized_in, Marking, marking_none, at_inside, marking_on, walked}
+use Rattle.checker.proofs.Walking.{sized_in_code, sized_in, marking_none, at_inside, marking_on, walked}
 use Rattle.checker.proofs.walks.mark_places.Goals as goal
 
 pub loop-at-init : goal.loop-at-init

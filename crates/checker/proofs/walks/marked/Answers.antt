@@ -3,7 +3,6 @@
 use mathlib.Core.Path.{sym, ap}
 use lib.Dec.{leb}
 use lib.ListN.{get_or-eq_default}
-use borrow.Author.Rules.{rules}
 use Rattle.checker.specs.Inner.{place_mark}
 use Rattle.checker.proofs.walks.marked.Goals as goal
 

@@ -1,14 +1,5 @@
-use mathlib.Core.Bool.{true}
-use mathlib.Core.Path.{◌≡◌, sym, subst, ◌∙◌}
 use Prim.Native.Nat.{ℕ, ◌-◌, ◌≤◌, ◌<◌}
-use native.Mathlib.Omega.{arith}
-use lib.Dec.{leb}
-use lib.ListN.{get_or}
-use borrow.Author.Count.{below_more}
-use borrow.Author.Rules.{rules}
-use borrow.Author.Tests.{not-true, not-false}
-use Rattle.checker.specs.Inner.{place_mark}
-use Rattle.checker.proofs.Walking.{Good, starts_good, starts_bad, starts_unmarked}
+use Rattle.checker.proofs.Walking.{Good}
 use Rattle.checker.proofs.walks.starts_fine.Given as goal
 
 abbrev pub invariant-loop-k : goal.invariant-loop-k

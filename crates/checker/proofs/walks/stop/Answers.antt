@@ -1,7 +1,6 @@
 -- `checker::walks::stop` meets its contract: what the step finds decides.
 -- Assumes nothing.
 use mathlib.Core.Path.{sym, ap, ◌∙◌}
-use borrow.Author.Rules.{rules}
 use Rattle.checker.specs.Inner.{stop_of}
 use Rattle.checker.proofs.walks.stop.Goals as goal
 

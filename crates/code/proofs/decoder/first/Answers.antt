@@ -1,7 +1,6 @@
 -- `code::decoder::first` meets its contract: the law of `decode` for an unknown opcode, else the step of the shape.
 -- Assumes nothing.
 use mathlib.Core.Path.{◌∙◌, sym}
-use borrow.Author.Rules.{rules}
 use Rattle.code.proofs.Decoding.{shape_last, decode_unknown, decode_shaped}
 use Rattle.code.proofs.decoder.first.Goals as goal
 

@@ -1,11 +1,10 @@
 -- `code::decoder::names_at` meets its contract: what is no instruction has no names, and what is one ends in the code, its names last.
 -- Assumes nothing.
 use mathlib.Core.Path.{◌≡◌, refl, ◌∙◌, sym, ap}
-use mathlib.Core.List.{List, [], ◌∷◌}
+use mathlib.Core.List.{List, []}
 use Prim.Native.Nat.{ℕ}
 use native.Mathlib.Omega.{arith}
 use lib.ListN.{drop}
-use borrow.Author.Rules.{rules}
 use Rattle.code.specs.declared.Step.{Step}
 use Rattle.code.specs.declared.Step.TheVariants.{Instr, End, Refused}
 use Rattle.code.specs.Decode.{names_by}

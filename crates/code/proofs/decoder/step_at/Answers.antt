@@ -5,7 +5,6 @@ use Prim.Native.Nat.{◌-◌}
 use native.Mathlib.Omega.{arith}
 use lib.ListN.{length, drop, length-drop}
 use lib.Seq.{take_all}
-use borrow.Author.Rules.{rules}
 use Rattle.op.specs.Opcodes.{last_opcode}
 use Rattle.code.specs.Decode.{decode}
 use Rattle.code.proofs.Decoding.{decode_past}

@@ -1,6 +1,5 @@
 -- `code::flows::change_of` meets its contract: the definition goes by the same cases.
 -- Assumes nothing.
-use borrow.Author.Rules.{rules}
 use Rattle.code.proofs.flows.change_of.Goals as goal
 
 pub returns-in-By : goal.returns-in-By

@@ -2,7 +2,6 @@
 -- `shaped_flow` ensures.
 -- Assumes nothing.
 use mathlib.Core.Path.{sym, ◌∙◌}
-use borrow.Author.Rules.{rules}
 use Rattle.code.proofs.Decoding.{decode_past, at_unknown}
 use Rattle.code.proofs.Moving.{flow_end, flow_refused}
 use Rattle.code.proofs.flows.flow_at.Goals as goal

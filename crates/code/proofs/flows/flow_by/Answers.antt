@@ -1,6 +1,5 @@
 -- `code::flows::flow_by` meets its contract: each field is a callee's answer.
 -- Assumes nothing.
-use borrow.Author.Rules.{rules}
 use Rattle.code.proofs.flows.flow_by.Goals as goal
 
 pub returns : goal.returns

@@ -3,7 +3,6 @@
 use mathlib.Core.Path.{ap, ◌∙◌}
 use Prim.Native.Nat.{ℕ}
 use lib.ListN.{length, drop}
-use borrow.Author.Rules.{rules}
 use Rattle.code.specs.Bytes.{signed}
 use Rattle.code.specs.Flow.{goal_by}
 use Rattle.code.proofs.Moving.{goal_jump, goal_none}

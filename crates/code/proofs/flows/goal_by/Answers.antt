@@ -2,7 +2,6 @@
 -- the displacement.
 -- Assumes nothing.
 use mathlib.Core.Path.{refl, sym}
-use borrow.Author.Rules.{rules}
 use mir.Syntax.{w16}
 use Rattle.code.specs.Bytes.{signed}
 use Rattle.code.proofs.Twos.{signed_small, unsigned_signed}

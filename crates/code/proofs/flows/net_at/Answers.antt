@@ -2,7 +2,6 @@
 -- Assumes nothing.
 use mathlib.Core.Path.{sym, ap, ◌∙◌}
 use lib.ListN.{drop}
-use borrow.Author.Rules.{rules}
 use Rattle.code.specs.Flow.{change_of}
 use Rattle.code.proofs.Moving.{net_fixed, net_refused, net_numbers}
 use Rattle.code.proofs.flows.net_at.Goals as goal

@@ -1,8 +1,6 @@
 -- `code::flows::shaped_flow` meets its contract: cut short, or the flow of what decodes.
 -- Assumes nothing.
 use mathlib.Core.Path.{ap, ◌∙◌}
-use native.Mathlib.Omega.{arith}
-use borrow.Author.Rules.{rules}
 use Rattle.code.specs.declared.Flowing.TheVariants as F
 use Rattle.code.proofs.Decoding.{at_cut, at_whole}
 use Rattle.code.proofs.Moving.{flow_op, flow_refused}

@@ -1,12 +1,11 @@
 -- `code::lent::fill` meets its contract: the loop's invariant: the cells below i hold the value, the others are
 -- as before.
 -- Assumes nothing.
-use mathlib.Core.Path.{◌≡◌, refl, ap, ◌∙◌}
-use mathlib.Core.List.{List, ◌++◌}
-use Prim.Native.Nat.{ℕ, ◌-◌, ◌≤◌}
+use mathlib.Core.Path.{refl, ap, ◌∙◌}
+use mathlib.Core.List.{List}
+use Prim.Native.Nat.{ℕ}
 use native.Mathlib.Omega.{arith}
-use lib.ListN.{length, set, drop, replicate, length-set}
-use borrow.Author.Rules.{rules}
+use lib.ListN.{set, length-set}
 use borrow.Author.Fill.{fill_more}
 use Rattle.base.proofs.Lists.{filled}
 use Rattle.code.proofs.lent.fill.Goals as goal

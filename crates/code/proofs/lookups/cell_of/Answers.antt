@@ -1,9 +1,6 @@
 -- `code::lookups::cell_of` meets its contract: a counted row's cells stand in the table.
 -- Assumes nothing.
-use borrow.Author.Rules.{rules}
-use lib.ListN.{length}
 use native.Mathlib.Omega.{arith}
-use Prim.Native.Nat.{◌+◌, ◌*◌, ◌<◌}
 use Rattle.code.proofs.Rows.{cell_inside}
 use Rattle.code.proofs.lookups.cell_of.Goals as goal
 

@@ -1,6 +1,5 @@
 -- `code::lookups::constant` meets its contract: its test is that of the definition.
 -- Assumes nothing.
-use borrow.Author.Rules.{rules}
 use borrow.Author.Tests.{lt-ltb, le-ltb}
 use Rattle.code.specs.Lookups.{constant_of}
 use Rattle.code.proofs.lookups.constant.Goals as goal

@@ -1,7 +1,6 @@
 -- `code::lookups::find_exception_handler` meets its contract: its test is that of the definition, on the row that the
 -- scan found.
 -- Assumes nothing.
-use borrow.Author.Rules.{rules}
 use borrow.Author.Tests.{lt-ltb, le-ltb}
 use Rattle.code.specs.Lookups.{handler_of}
 use Rattle.code.proofs.lookups.find_exception_handler.Goals as goal

@@ -1,13 +1,9 @@
 -- `code::lookups::first_covering` meets its contract. The loop's invariant: no row passed covers the offset.
 -- Assumes nothing.
 use mathlib.Core.Path.{sym, ◌∙◌}
-use Prim.Native.Nat.{◌-◌}
-use borrow.Author.Rules.{rules}
 use native.Mathlib.Omega.{arith}
-use Rattle.code.specs.Tables.{exception_cells}
-use Rattle.code.specs.Lookups.{covering, first_covering}
-use Rattle.code.specs.Rows.{row_count}
-use Rattle.code.proofs.First.{Passed, passed_none, passed_more, passed_two, passed_hit, passed_all, passed_last}
+use Rattle.code.specs.Lookups.{first_covering}
+use Rattle.code.proofs.First.{passed_none, passed_more, passed_two, passed_hit, passed_all, passed_last}
 use Rattle.code.proofs.lookups.first_covering.Goals as goal
 
 pub loop-row-init : goal.loop-row-init

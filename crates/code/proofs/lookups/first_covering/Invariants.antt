@@ -1,11 +1,8 @@
-use mathlib.Core.Path.{sym, ◌∙◌}
 use Prim.Native.Nat.{◌-◌}
-use borrow.Author.Rules.{rules}
-use native.Mathlib.Omega.{arith}
 use Rattle.code.specs.Tables.{exception_cells}
-use Rattle.code.specs.Lookups.{covering, first_covering}
+use Rattle.code.specs.Lookups.{covering}
 use Rattle.code.specs.Rows.{row_count}
-use Rattle.code.proofs.First.{Passed, passed_none, passed_more, passed_two, passed_hit, passed_all, passed_last}
+use Rattle.code.proofs.First.{Passed}
 use Rattle.code.proofs.lookups.first_covering.Given as goal
 
 abbrev pub invariant-loop-row : goal.invariant-loop-row

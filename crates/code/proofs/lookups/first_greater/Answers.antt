@@ -1,13 +1,10 @@
 -- `code::lookups::first_greater` meets its contract. The loop's invariant: no row passed has a greater offset.
 -- Assumes nothing.
 use mathlib.Core.Path.{sym, ◌∙◌}
-use Prim.Native.Nat.{◌-◌}
-use borrow.Author.Rules.{rules}
 use borrow.Author.Tests.{lt-ltb, le-ltb}
 use native.Mathlib.Omega.{arith}
-use Rattle.code.specs.Locations.{location_count}
-use Rattle.code.specs.Lookups.{greater, first_greater}
-use Rattle.code.proofs.First.{Passed, passed_none, passed_more, passed_two, passed_hit, passed_all, passed_last}
+use Rattle.code.specs.Lookups.{first_greater}
+use Rattle.code.proofs.First.{passed_none, passed_more, passed_two, passed_hit, passed_all, passed_last}
 use Rattle.code.proofs.lookups.first_greater.Goals as goal
 
 pub loop-row-init : goal.loop-row-init

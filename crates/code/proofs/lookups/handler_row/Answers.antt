@@ -1,6 +1,5 @@
 -- `code::lookups::handler_row` meets its contract: a cell for each field.
 -- Assumes nothing.
-use borrow.Author.Rules.{rules}
 use Rattle.code.proofs.lookups.handler_row.Goals as goal
 
 pub returns : goal.returns

@@ -1,6 +1,5 @@
 -- `code::lookups::local_name` meets its contract: its tests are those of the definition.
 -- Assumes nothing.
-use borrow.Author.Rules.{rules}
 use borrow.Author.Tests.{lt-ltb, le-ltb, eq-eqb, ne_eqb, le-leb, lt-leb}
 use Rattle.code.specs.Lookups.{local_name_of}
 use Rattle.code.proofs.lookups.local_name.Goals as goal

@@ -1,6 +1,5 @@
 -- `code::lookups::location_row` meets its contract: a cell for each field.
 -- Assumes nothing.
-use borrow.Author.Rules.{rules}
 use Rattle.code.proofs.lookups.location_row.Goals as goal
 
 pub returns : goal.returns

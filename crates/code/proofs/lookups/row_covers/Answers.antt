@@ -1,6 +1,5 @@
 -- `code::lookups::row_covers` meets its contract: the test over the row's two cells.
 -- Assumes nothing.
-use borrow.Author.Rules.{rules}
 use Rattle.code.proofs.lookups.row_covers.Goals as goal
 
 pub returns : goal.returns

@@ -4,7 +4,6 @@ use mathlib.Core.Path.{sym}
 use native.Mathlib.Omega.{arith}
 use lib.ListN.{drop, length-drop, get_or-eq_default}
 use lib.Seq.{get_or-drop}
-use borrow.Author.Rules.{rules}
 use Rattle.code.proofs.numbers.byte.Goals as goal
 
 pub returns-then-code-at : goal.returns-then-code-at

@@ -4,7 +4,6 @@ use mathlib.Core.Path.{◌≡◌, sym, ap, ◌∙◌}
 use mathlib.Core.List.{List}
 use Prim.Native.Nat.{ℕ}
 use lib.ListN.{drop}
-use borrow.Author.Rules.{rules}
 use Rattle.op.specs.Effects.{former_of}
 use Rattle.op.specs.declared.Shape.{Shape}
 use Rattle.code.specs.Decode.{operand_in}

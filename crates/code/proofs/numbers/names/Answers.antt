@@ -1,7 +1,6 @@
 -- `code::numbers::names` meets its contract: the shape's number tells where the count stands.
 -- Assumes nothing.
 use mathlib.Core.Path.{◌∙◌}
-use borrow.Author.Rules.{rules}
 use Rattle.code.proofs.Operands.{names_kw, names_attr_kw, names_none}
 use Rattle.code.proofs.numbers.names.Goals as goal
 

@@ -1,7 +1,6 @@
 -- `code::numbers::size` meets its contract: the shape's size with so many names.
 -- Assumes nothing.
 use mathlib.Core.Path.{ap, ◌∙◌}
-use borrow.Author.Rules.{rules}
 use Rattle.op.specs.Shapes.{size_of}
 use Rattle.code.proofs.numbers.size.Goals as goal
 

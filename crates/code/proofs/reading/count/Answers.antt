@@ -1,13 +1,9 @@
 -- `code::reading::count` meets its contract: the loop keeps `Counting`, and a step that is no instruction ends it.
 -- Assumes nothing.
-use mathlib.Core.Path.{◌≡◌, ◌∙◌, sym}
-use Prim.Native.Nat.{◌-◌}
+use mathlib.Core.Path.{◌∙◌, sym}
 use native.Mathlib.Omega.{arith}
-use lib.ListN.{length}
-use borrow.Author.Rules.{rules}
-use Rattle.op.specs.Opcodes.{last_opcode}
 use Rattle.code.proofs.Decoding.{decoded_ends}
-use Rattle.code.proofs.Counted.{Counting, counting_none, counting_on, counting_stop}
+use Rattle.code.proofs.Counted.{counting_none, counting_on, counting_stop}
 use Rattle.code.proofs.reading.count.Goals as goal
 
 pub loop-size-init : goal.loop-size-init

@@ -2,7 +2,6 @@
 -- Assumes nothing.
 use mathlib.Core.Path.{sym, ap}
 use Rattle.code.specs.Inner.{stopped}
-use borrow.Author.Rules.{rules}
 use Rattle.code.proofs.reading.stop.Goals as goal
 
 pub returns-in-Instr : goal.returns-in-Instr

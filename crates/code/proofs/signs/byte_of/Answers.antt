@@ -1,12 +1,8 @@
 -- `code::signs::byte_of` meets its contract: below 0 the bits are flipped twice, else they are the number.
 -- Assumes nothing.
-use mathlib.Core.Path.{◌≡◌, refl}
-use Prim.Native.Nat.{◌-◌}
+use mathlib.Core.Path.{refl}
 use native.Mathlib.Omega.{arith}
-use lib.IntN.{pos}
 use mir.Syntax.{w8}
-use mir.Val.{of_z, to_z}
-use Rattle.code.specs.Bytes.{unsigned}
 use Rattle.code.proofs.Twos.{flipped, kept, unsigned_small}
 use Rattle.code.proofs.signs.byte_of.Goals as goal
 

@@ -1,7 +1,6 @@
 -- `code::sizes::size_at` meets its contract: no opcode, one without a shape, or the size by its shape.
 -- Assumes nothing.
 use mathlib.Core.Path.{sym, ap, ◌∙◌}
-use borrow.Author.Rules.{rules}
 use Rattle.code.specs.Decode.{size_in}
 use Rattle.code.proofs.Decoding.{decode_past, at_unknown}
 use Rattle.code.proofs.sizes.size_at.Goals as goal

@@ -1,7 +1,6 @@
 -- `code::sizes::size_by` meets its contract: the size by the names' count, if the code has as much.
 -- Assumes nothing.
 use mathlib.Core.Path.{sym, ap}
-use borrow.Author.Rules.{rules}
 use Rattle.code.specs.Decode.{size_in}
 use Rattle.code.proofs.Decoding.{at_cut, at_whole}
 use Rattle.code.proofs.sizes.size_by.Goals as goal

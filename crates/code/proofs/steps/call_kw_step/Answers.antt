@@ -4,7 +4,6 @@
 use mathlib.Core.Path.{refl, ap}
 use Prim.Native.Nat.{ℕ, ◌+◌, ◌*◌}
 use native.Mathlib.Omega.{arith}
-use borrow.Author.Rules.{rules}
 use Rattle.op.specs.Shapes.{size_of}
 use Rattle.code.specs.Decode.{operand_in}
 use Rattle.code.proofs.Decoding.{step_cut, step_instr}

@@ -2,7 +2,6 @@
 -- Assumes nothing.
 use mathlib.Core.Path.{refl}
 use native.Mathlib.Omega.{arith}
-use borrow.Author.Rules.{rules}
 use Rattle.op.specs.Shapes.{size_of}
 use Rattle.code.specs.Decode.{operand_in}
 use Rattle.code.proofs.Decoding.{step_instr}

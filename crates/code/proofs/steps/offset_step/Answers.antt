@@ -2,7 +2,6 @@
 -- compute.
 -- Assumes nothing.
 use mathlib.Core.Path.{refl, ◌∙◌, ap}
-use borrow.Author.Rules.{rules}
 use mir.Syntax.{w16}
 use mir.Facts.{to_z-of_z}
 use Rattle.op.specs.Shapes.{size_of}

@@ -1,6 +1,5 @@
 -- `code::steps::shaped_step` meets its contract: in each arm the shape is what the match told.
 -- Assumes nothing.
-use borrow.Author.Rules.{rules}
 use Rattle.code.proofs.steps.shaped_step.Goals as goal
 
 pub returns-in-None : goal.returns-in-None

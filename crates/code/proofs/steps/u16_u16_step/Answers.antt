@@ -1,7 +1,6 @@
 -- `code::steps::u16_u16_step` meets its contract: the laws of `step_in`, one for each return; the size and the operand compute.
 -- Assumes nothing.
 use mathlib.Core.Path.{refl}
-use borrow.Author.Rules.{rules}
 use Rattle.op.specs.Shapes.{size_of}
 use Rattle.code.specs.Decode.{operand_in}
 use Rattle.code.proofs.Decoding.{step_cut, step_instr}

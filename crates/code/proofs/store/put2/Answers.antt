@@ -1,7 +1,6 @@
 -- `code::store::put2` meets its contract: stores in a row are one front.
 -- Assumes nothing.
 use mathlib.Core.List.{[], ◌∷◌}
-use borrow.Author.Rules.{rules}
 use Rattle.code.proofs.Stores.{sets_front}
 use Rattle.code.proofs.store.put2.Goals as goal
 

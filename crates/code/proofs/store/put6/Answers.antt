@@ -3,7 +3,6 @@
 use mathlib.Core.List.{[], ◌∷◌}
 use native.Mathlib.Omega.{arith}
 use lib.ListN.{length-set}
-use borrow.Author.Rules.{rules}
 use Rattle.code.proofs.Stores.{sets_front}
 use Rattle.code.proofs.store.put6.Goals as goal
 

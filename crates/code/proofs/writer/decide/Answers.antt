@@ -1,7 +1,6 @@
 -- `code::writer::decide` meets its contract: the laws of `written_of`, one for each return.
 -- Assumes nothing.
 use mathlib.Core.Path.{◌∙◌, sym, ap}
-use borrow.Author.Rules.{rules}
 use Rattle.op.specs.Shapes.{shape_number}
 use Rattle.code.proofs.Writing.{written_unknown, written_many, written_shape, written_count, written_full}
 use Rattle.code.proofs.Writing.{written_size}

@@ -1,11 +1,9 @@
 -- `code::writer::fill` meets its contract: in each arm the shape's size is the room, and the front is the arm's bytes.
 -- Assumes nothing.
 use mathlib.Core.Path.{refl}
-use borrow.Author.Rules.{rules}
 use mir.Syntax.{w8, w16}
 use mir.Facts.{to_z-of_z}
 use Rattle.op.specs.Shapes.{size_of}
-use Rattle.op.specs.declared.Operand.TheVariants as O
 use Rattle.code.specs.Encode.{encode}
 use Rattle.code.proofs.Writing.{plain_arm, names_arm, arm_room}
 use Rattle.code.proofs.writer.fill.Goals as goal

@@ -2,7 +2,6 @@
 -- front.
 -- Assumes nothing.
 use mathlib.Core.Path.{◌∙◌, sym, ap}
-use borrow.Author.Rules.{rules}
 use Rattle.code.specs.declared.Written.{Written}
 use Rattle.code.specs.Encode.{encode, filled}
 use Rattle.code.proofs.Writing.{writable}

@@ -4,7 +4,6 @@ use mathlib.Core.List.{[], ◌∷◌}
 use Prim.Native.Nat.{◌+◌, ◌≤◌}
 use native.Mathlib.Omega.{arith}
 use lib.ListN.{length}
-use borrow.Author.Rules.{rules}
 use Rattle.code.specs.Bytes.{names_bytes}
 use Rattle.code.proofs.Inverse.{length_names}
 use Rattle.code.proofs.Stores.{lent, lent_behind}

@@ -1,12 +1,10 @@
 -- `code::writer::write_names` meets its contract. The invariant: the bytes of the names passed stand at the front;
 -- the measure is what is left.
 -- Assumes nothing.
-use mathlib.Core.Path.{◌≡◌, refl}
-use Prim.Native.Nat.{◌≤◌, ◌-◌}
+use mathlib.Core.Path.{refl}
 use native.Mathlib.Omega.{arith}
-use lib.ListN.{length, take, length-set}
+use lib.ListN.{length-set}
 use lib.Seq.{take_all}
-use Rattle.code.specs.Bytes.{front, names_bytes}
 use Rattle.code.proofs.Stores.{names_more}
 use Rattle.code.proofs.writer.write_names.Goals as goal
 

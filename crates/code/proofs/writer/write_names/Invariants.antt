@@ -1,10 +1,7 @@
-use mathlib.Core.Path.{◌≡◌, refl}
+use mathlib.Core.Path.{◌≡◌}
 use Prim.Native.Nat.{◌≤◌, ◌-◌}
-use native.Mathlib.Omega.{arith}
-use lib.ListN.{length, take, length-set}
-use lib.Seq.{take_all}
+use lib.ListN.{length, take}
 use Rattle.code.specs.Bytes.{front, names_bytes}
-use Rattle.code.proofs.Stores.{names_more}
 use Rattle.code.proofs.writer.write_names.Given as goal
 
 abbrev pub invariant-loop-i : goal.invariant-loop-i

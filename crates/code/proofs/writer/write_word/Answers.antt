@@ -1,6 +1,5 @@
 -- `code::writer::write_word` meets its contract: the word's two bytes.
 -- Assumes nothing.
-use borrow.Author.Rules.{rules}
 use Rattle.code.proofs.writer.write_word.Goals as goal
 
 pub returns : goal.returns

@@ -1,8 +1,7 @@
 -- `op::depths::after` meets its contract: what `land` ensures of the effect.
 -- Assumes nothing.
-use mathlib.Core.Path.{◌≡◌, ◌∙◌, sym, ap}
+use mathlib.Core.Path.{◌∙◌, ap}
 use Rattle.op.specs.Depths.{landing}
-use borrow.Author.Rules.{rules}
 use Rattle.op.proofs.depths.after.Goals as goal
 
 pub returns : goal.returns

@@ -1,9 +1,8 @@
 -- `op::depths::land` meets its contract: its tests are the definition's.
 -- Assumes nothing.
-use mathlib.Core.Path.{◌≡◌, ◌∙◌, sym, ap}
+use mathlib.Core.Path.{◌∙◌, sym, ap}
 use borrow.Author.Tests.{lt-leb, le-leb}
 use Rattle.op.specs.Depths.{landing}
-use borrow.Author.Rules.{rules}
 use Rattle.op.proofs.depths.land.Goals as goal
 
 pub returns-then-high-taken-le65535 : goal.returns-then-high-taken-le65535

@@ -2,7 +2,6 @@
 -- Assumes nothing.
 use mathlib.Core.Path.{◌∙◌, sym, subst}
 use native.Mathlib.Omega.{arith}
-use borrow.Author.Rules.{rules}
 use Rattle.op.specs.Effects.{Small}
 use Rattle.op.specs.Inner.{rule_at}
 use Rattle.op.proofs.Effected.{known_above, known_below, from_unknown, from_rule}

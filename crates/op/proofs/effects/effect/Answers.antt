@@ -2,7 +2,6 @@
 -- opcode's number is its rule.
 -- Assumes nothing.
 use mathlib.Core.Path.{◌∙◌, sym, ap, subst}
-use borrow.Author.Rules.{rules}
 use Rattle.op.specs.Shapes.{shape_number}
 use Rattle.op.specs.Effects.{Small}
 use Rattle.op.specs.Inner.{rule_at}

@@ -1,6 +1,5 @@
 -- `op::effects::fixed` meets its contract: the first six rules are differences, and the others go by their operand.
 -- Assumes nothing.
-use borrow.Author.Rules.{rules}
 use Rattle.op.proofs.Effected.{known_above, known_below, fixed_unknown, fixed_first, fixed_rest}
 use Rattle.op.proofs.effects.fixed.Goals as goal
 

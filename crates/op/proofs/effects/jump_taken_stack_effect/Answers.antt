@@ -1,10 +1,9 @@
 -- `op::effects::jump_taken_stack_effect` meets its contract: what `net` ensures of the taken effect.
 -- Assumes nothing.
-use mathlib.Core.Path.{◌≡◌, ◌∙◌, sym, ap, subst}
+use mathlib.Core.Path.{◌∙◌, sym, ap, subst}
 use Rattle.op.specs.Effects.{net_of, Small}
 use Rattle.op.proofs.Rules.{taken_small}
-use mathlib.Core.Path.{◌≡◌, ◌∙◌, sym, ap}
-use borrow.Author.Rules.{rules}
+use mathlib.Core.Path.{◌∙◌, sym, ap}
 use Rattle.op.proofs.effects.jump_taken_stack_effect.Goals as goal
 
 pub net-requires : goal.net-requires

@@ -1,9 +1,8 @@
 -- `op::effects::makes_dead` meets its contract, by the test of the last opcode and what `is_dead_maker` ensures.
 -- Assumes nothing.
-use mathlib.Core.Path.{◌≡◌, ◌∙◌, sym, ap}
+use mathlib.Core.Path.{◌∙◌, sym}
 use borrow.Author.Tests.{lt-leb, le-leb}
 use Rattle.op.specs.Opcodes.{known}
-use borrow.Author.Rules.{rules}
 use Rattle.op.proofs.effects.makes_dead.Goals as goal
 
 pub returns-then-opcode-gt-LAST : goal.returns-then-opcode-gt-LAST

@@ -1,15 +1,11 @@
 -- `op::effects::net` meets its contract: the difference of two numbers that fit is the signed one.
 -- Assumes nothing.
-use mathlib.Core.Path.{◌≡◌, ◌∙◌, sym, ap, subst}
-use Prim.Native.Nat.{ℕ}
-use mathlib.Core.Path.{◌≡◌, ◌∙◌, sym, ap}
-use native.Mathlib.Omega.{arith}
-use lib.IntN.{ℤ}
+use mathlib.Core.Path.{◌∙◌, sym, ap, subst}
+use mathlib.Core.Path.{◌∙◌, sym, ap}
 use mir.Syntax.{w32}
 use Rattle.op.specs.Effects.{net_of, Small}
 use Rattle.op.specs.declared.NetEffect.TheVariants as N
-use Rattle.op.proofs.Signs.{difference, difference_fits}
-use borrow.Author.Rules.{rules}
+use Rattle.op.proofs.Signs.{difference}
 use Rattle.op.proofs.effects.net.Goals as goal
 
 pub returns-in-By : goal.returns-in-By

@@ -6,7 +6,6 @@ use Rattle.op.specs.Effects.{effect_by}
 use Rattle.op.specs.Inner.{rule_at}
 use Rattle.base.proofs.Keys.{at}
 use Rattle.op.proofs.Rules.{last_rule}
-use borrow.Author.Rules.{rules}
 use Rattle.op.proofs.effects.rule_effect.Goals as goal
 
 pub returns-in-0 : goal.returns-in-0

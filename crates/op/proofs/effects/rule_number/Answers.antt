@@ -1,7 +1,6 @@
 -- `op::effects::rule_number` meets its contract: one test over the row.
 -- Assumes nothing.
 use native.Mathlib.Omega.{arith}
-use borrow.Author.Rules.{rules}
 use Rattle.op.specs.Opcodes.{row_of, table}
 use Rattle.op.specs.Inner.{rule_words, no_rules, rule_no}
 use Rattle.op.proofs.InWords.{read_in}

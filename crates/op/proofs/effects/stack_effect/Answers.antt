@@ -1,8 +1,7 @@
 -- `op::effects::stack_effect` meets its contract: what `net` ensures of the effect.
 -- Assumes nothing.
 use Rattle.op.specs.Effects.{net_of}
-use mathlib.Core.Path.{◌≡◌, ◌∙◌, sym, ap}
-use borrow.Author.Rules.{rules}
+use mathlib.Core.Path.{◌∙◌, ap}
 use Rattle.op.proofs.effects.stack_effect.Goals as goal
 
 pub net-requires : goal.net-requires

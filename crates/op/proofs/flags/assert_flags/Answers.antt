@@ -1,9 +1,8 @@
 -- `op::flags::assert_flags` meets its contract, by what `as_operand` ensures.
 -- Assumes nothing.
-use mathlib.Core.Path.{◌≡◌, ◌∙◌, sym, ap}
+use mathlib.Core.Path.{◌∙◌, sym, ap}
 use Prim.Native.Nat.{◌+◌}
 use Rattle.op.specs.Flags.{flags_of}
-use borrow.Author.Rules.{rules}
 use Rattle.op.proofs.flags.assert_flags.Goals as goal
 
 pub returns-in-With : goal.returns-in-With

@@ -4,7 +4,6 @@ use lib.ListN.{get_or}
 use native.Mathlib.Nat.{le_of_lt}
 use Rattle.op.specs.Names.{name_by}
 use Rattle.op.proofs.Named.{past_starts, no_part, empty_part, whole_part}
-use borrow.Author.Rules.{rules}
 use Rattle.op.proofs.names.of_opcode.Goals as goal
 
 pub returns-then-starts-i : goal.returns-then-starts-i

@@ -1,7 +1,6 @@
 -- `op::needs::need` meets its contract: one test over the row.
 -- Assumes nothing.
 use native.Mathlib.Omega.{arith}
-use borrow.Author.Rules.{rules}
 use Rattle.op.specs.Names.{name_of}
 use Rattle.op.specs.Needs.{need_of}
 use Rattle.op.specs.Opcodes.{row_of, table}

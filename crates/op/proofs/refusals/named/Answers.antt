@@ -2,7 +2,6 @@
 -- Assumes nothing.
 use mathlib.Core.Path.{◌∙◌, sym, ap}
 use Rattle.op.specs.Refusals.{named_of}
-use borrow.Author.Rules.{rules}
 use Rattle.op.proofs.refusals.named.Goals as goal
 
 pub returns-in-UnknownOpcode : goal.returns-in-UnknownOpcode

@@ -1,8 +1,7 @@
 -- `op::refusals::number` meets its contract: each arm has its case's number.
 -- Assumes nothing.
-use mathlib.Core.Path.{◌≡◌, ◌∙◌, sym, ap}
+use mathlib.Core.Path.{sym, ap}
 use Rattle.op.specs.Refusals.{number_of}
-use borrow.Author.Rules.{rules}
 use Rattle.op.proofs.refusals.number.Goals as goal
 
 pub returns-in-UnknownOpcode : goal.returns-in-UnknownOpcode

@@ -3,9 +3,6 @@
 -- Assumes nothing.
 use mathlib.Core.Path.{ap, ◌∙◌}
 use Prim.Native.Nat.{ℕ, ◌+◌, ◌*◌}
-use native.Mathlib.Omega.{arith}
-use borrow.Author.Rules.{rules}
-use Rattle.op.proofs.Effected.{number_small}
 use Rattle.op.proofs.Shaping.{least_size, size_arm, size_plain}
 use Rattle.op.proofs.shapes.instruction_size.Goals as goal
 

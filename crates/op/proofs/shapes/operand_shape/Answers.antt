@@ -3,7 +3,6 @@
 use native.Mathlib.Omega.{arith}
 use Rattle.base.proofs.Keys.{past}
 use Rattle.op.proofs.Shaping.{shape_arm, shape_none}
-use borrow.Author.Rules.{rules}
 use Rattle.op.proofs.shapes.operand_shape.Goals as goal
 
 pub returns-in-0 : goal.returns-in-0

@@ -1,7 +1,6 @@
 -- `op::shapes::shape_number` meets its contract: one test over the row.
 -- Assumes nothing.
 use native.Mathlib.Omega.{arith}
-use borrow.Author.Rules.{rules}
 use Rattle.op.specs.Opcodes.{known, row_of, table}
 use Rattle.op.specs.Shapes.{shape_no}
 use Rattle.op.specs.Inner.{shape_words, no_shapes}

@@ -3,7 +3,6 @@
 use mathlib.Core.Path.{sym}
 use native.Mathlib.Omega.{arith}
 use lib.ListN.{get_or-eq_default}
-use borrow.Author.Rules.{rules}
 use Rattle.base.proofs.Keys.{past}
 use Rattle.op.specs.Inner.{shape_words, no_shapes}
 use Rattle.op.proofs.shapes.word.Goals as goal
