@@ -12,7 +12,7 @@ use Rattle.base.proofs.Bools.{true_t, and_true, clash}
 use Rattle.op.specs.Opcodes.{table, known}
 use Rattle.op.proofs.Listed.{known_row}
 use lib.IntN.{ℤ, pos, negsuc}
-use borrow.Author.Tests.{eqb-true, eqb-false, not_true}
+use borrow.Author.Tests.{eqb-true, eqb-false, not-true}
 use Rattle.text.specs.Decimal.{decimal, whole_text}
 use Rattle.text.specs.Number.{natural, value}
 use Rattle.text.specs.Parts.{join, split}
@@ -36,7 +36,7 @@ negative_text : (t : List ℕ) (z : ℤ) → negative t ≡ some z → 45 ∷ t 
 negative_text t z e =
     let o = only (natural t && not (eqb (value t) 0)) (negsuc (value t - 1)) z e in
     let a = and_true (natural t) (not (eqb (value t) 0)) o.0 in
-    let ne = eqb-false (value t) 0 (not_true (eqb (value t) 0) a.1) in
+    let ne = eqb-false (value t) 0 (not-true (eqb (value t) 0) a.1) in
     let s : suc (value t - 1) ≡ value t = omega arith in
     sym (ap whole_text (sym o.1) ∙ ap (λ (n : ℕ). 45 ∷ decimal n) s ∙ ap (λ (l : List ℕ). 45 ∷ l) (decimal_value t (true_t (natural t) a.0)))
 
