@@ -2,14 +2,13 @@
 -- Assumes nothing.
 use mathlib.Core.Path.{◌≡◌, refl, sym, ap, ◌∙◌}
 use mathlib.Core.Bool.{Bool, true, false, cond, ◌&&◌}
-use mathlib.Core.List.{List, [], ◌++◌}
+use mathlib.Core.List.{List, ◌++◌}
 use Prim.Native.Nat.{ℕ, suc, ◌<◌}
 use native.Mathlib.Omega.{arith}
 use lib.Dec.{ltb}
 use lib.ListN.{length, take}
 use borrow.Author.Tests.{ltb-true, ltb-false}
 use Rattle.text.specs.Fitting.{text_of, listed_of, listed_in}
-use Rattle.text.specs.Joined.{Joins}
 use Rattle.text.specs.Lines.{plain_lines}
 use Rattle.text.specs.declared.Listed.TheVariants.{Part}
 use Rattle.text.proofs.Joining.{joins, plain_left, plain_all}

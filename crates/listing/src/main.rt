@@ -6,7 +6,7 @@ ghost use Rattle.std.specs.Prelude.{◌≡◌, true, List, [], ◌≤◌, length
 ghost use Rattle.text.specs.Lines.{plain_lines};
 ghost use Rattle.listing.specs.Printing.{Turns};
 
-use libc::{STDIN_FILENO, STDOUT_FILENO};
+use std::io::Read;
 use text::{Listed, listing};
 
 // A part that was printed: its length, the cursor behind it, whether there may be more, and whether nothing went wrong.
@@ -25,8 +25,32 @@ fn input() -> [u8; 65537]
     [0; 65537]
 }
 
+// Room for a part.
+fn room() -> [u8; 65536]
+    ensures { 65536 ≡ length result }
+{
+    [0; 65536]
+}
+
+// Reads until the text is full, the input ends or a read fails: how many bytes stand at its front.
+fn read_full(from: &mut impl Read, bytes: &mut [u8]) -> usize
+    ensures { result ≤ length bytes.new }
+{
+    let mut done = 0;
+    while done < bytes.len() {
+        let Ok(n) = from.read(&mut bytes[done..]) else {
+            break;
+        };
+        if n == 0 {
+            break;
+        }
+        done += n;
+    }
+    done
+}
+
 // The next part, at the front of the text, and written from there.
-fn turn(code: &[u8], from: usize, out: &mut [u8]) -> Printed
+fn turn(rt: &impl Print, code: &[u8], from: usize, out: &mut [u8]) -> Printed
     ensures { Turns code.now from result out.new }
 {
     let part = listing::list(code, from, out);
@@ -38,7 +62,7 @@ fn turn(code: &[u8], from: usize, out: &mut [u8]) -> Printed
             fine: false,
         };
     };
-    let fine = io::write_all(STDOUT_FILENO, &out[..length]);
+    let fine = rt.write_all(&out[..length]).is_ok();
     Printed {
         length,
         next,
@@ -48,7 +72,7 @@ fn turn(code: &[u8], from: usize, out: &mut [u8]) -> Printed
 }
 
 // The listing of the first `size` bytes. A closed output is the end.
-fn print(bytes: &[u8], size: usize, out: &mut [u8]) -> Printed
+fn print(rt: &impl Print, bytes: &[u8], size: usize, out: &mut [u8]) -> Printed
     requires { size ≤ length bytes.now }
     ensures { result.fine ≡ true → plain_lines (take size bytes.now) result.next ≡ [] }
 {
@@ -60,14 +84,14 @@ fn print(bytes: &[u8], size: usize, out: &mut [u8]) -> Printed
         fine: true,
     };
     while p.more {
-        p = turn(code, p.next, out);
+        p = turn(rt, code, p.next, out);
     }
     p
 }
 
-fn main() {
+fn main(rt: HostRuntime) {
     let mut bytes = input();
-    let size = io::read_full(STDIN_FILENO, &mut bytes);
-    let mut out = io::large_buffer();
-    print(&bytes, size, &mut out);
+    let size = read_full(&mut rt.stdin(), &mut bytes);
+    let mut out = room();
+    print(&rt, &bytes, size, &mut out);
 }

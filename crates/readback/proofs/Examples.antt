@@ -1,7 +1,7 @@
 -- The listing of example A read back, and texts and lines that are easy to take for others, computed.
 -- Assumes nothing.
 use mathlib.Core.Path.{◌≡◌, refl}
-use mathlib.Core.List.{List, [], ◌∷◌}
+use mathlib.Core.List.{[], ◌∷◌}
 use Rattle.op.specs.Names.{ascii}
 use Rattle.op.specs.Opcodes.{table, known, row_of}
 use Rattle.op.specs.Shapes.{shape_of}

@@ -22,7 +22,7 @@ use Rattle.text.specs.Parts.{split}
 use Rattle.text.specs.Reading.{only_if, opcode_of, read_operands, read_target, row, read_fields, read_row}
 use Rattle.text.specs.Row.{Row, target_of}
 use Rattle.text.proofs.Splitting.{split_some}
-use Rattle.readback.specs.Operands.{Said, said, and_then}
+use Rattle.readback.specs.Operands.{Said, and_then}
 use Rattle.readback.specs.Formed.{alike, said_by, formed_row, formed, same_target, agrees, Judged, Bad}
 use Rattle.readback.specs.Formed.{judge_formed, judge_by}
 use Rattle.readback.specs.Inner.{cut_at}

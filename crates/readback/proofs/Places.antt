@@ -1,23 +1,19 @@
 -- Offsets and targets as the code compares them.
 -- Assumes nothing.
 use mathlib.Core.Path.{◌≡◌, refl, sym, ap, subst}
-use mathlib.Core.Bool.{Bool, true, false, cond, not}
-use mathlib.Core.List.{List, [], ◌∷◌}
+use mathlib.Core.Bool.{Bool, true, false, cond}
+use mathlib.Core.List.{List}
 use mathlib.Core.Option.{Option, none, some}
 use Prim.Native.Nat.{ℕ, suc, ◌+◌, ◌-◌, ◌≤◌, ◌<◌}
 use native.Mathlib.Decide.{dec_lt}
 use native.Mathlib.Omega.{arith}
-use denote.Enum.Declared.{tag_of}
 use lib.Dec.{leb, eqb}
 use lib.IntN.{ℤ, pos, negsuc, ◌+ℤ◌}
 use lib.Signed.{mag}
-use types.Run.{OneOf}
 use borrow.Author.Tests.{eq-eqb, ne_eqb, lt-ltb, le-ltb, leb-false, eqb-true, eqb-false}
 use Rattle.base.proofs.Bools.{clash}
-use Rattle.base.proofs.Keys.{by_keys}
 use Rattle.op.specs.declared.Operand.{Operand}
 use Rattle.op.specs.declared.Operand.TheVariants as O
-use Rattle.op.specs.contracts.Operand.{the_type}
 use Rattle.code.specs.Bytes.{unsigned}
 use Rattle.text.specs.Number.{natural, value}
 use Rattle.text.specs.Reading.{same, read_whole, present, read_target}
@@ -33,14 +29,13 @@ use Rattle.readback.specs.declared.placing.Met.TheVariants as M
 
 -- the displacement
 
-pub no_jump : (o : Operand) → OneOf (0 ∷ 1 ∷ 2 ∷ 3 ∷ 5 ∷ 6 ∷ 7 ∷ 8 ∷ 9 ∷ 10 ∷ 11 ∷ []) (tag_of the_type o) → (at : ℕ)
+pub no_jump : (o : Operand) → ((z : ℤ) → o ≡ O.Offset z → ⊥) → (at : ℕ)
     → target_of at o ≡ none
 no_jump O.None t at = refl
 no_jump (O.U8 a) t at = refl
 no_jump (O.I8 z) t at = refl
 no_jump (O.U16 a) t at = refl
-no_jump (O.Offset z) t at =
-    absurd (by_keys (λ (k : ℕ). not (eqb k 4)) 4 (0 ∷ 1 ∷ 2 ∷ 3 ∷ 5 ∷ 6 ∷ 7 ∷ 8 ∷ 9 ∷ 10 ∷ 11 ∷ []) t tt)
+no_jump (O.Offset z) t at = absurd (t z refl)
 no_jump (O.U8U8 a b) t at = refl
 no_jump (O.U16U8 a b) t at = refl
 no_jump (O.U16U16 a b) t at = refl

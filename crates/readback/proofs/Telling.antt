@@ -30,7 +30,6 @@ use Rattle.code.proofs.Decoding.{shape_known}
 use Rattle.code.proofs.Inverse.{length_encode}
 use Rattle.code.proofs.Ranges.{InRange}
 use Rattle.code.proofs.Writing.{written_full, written_size}
-use Rattle.text.specs.Number.{value}
 use Rattle.text.specs.Row.{wholes, operands_of}
 use Rattle.readback.specs.Operands.{Said, said, and_then, operand_for}
 use Rattle.readback.specs.Formed.{said_by, Good, Bad}

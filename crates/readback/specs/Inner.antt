@@ -9,7 +9,6 @@ use Rattle.op.specs.declared.Operand.{Operand}
 use Rattle.op.specs.declared.Operand.TheVariants as O
 use Rattle.op.specs.declared.Shape.{Shape}
 use Rattle.op.specs.declared.Shape.TheVariants as S
-use Rattle.code.specs.Bytes.{front}
 use Rattle.text.specs.Parts.{split}
 use Rattle.text.specs.Reading.{same, read_whole, read_all, read_operands}
 use Rattle.text.specs.Row.{wholes, dash}
@@ -22,7 +21,7 @@ use Rattle.readback.specs.declared.numbers.Small.TheVariants as Z
 use Rattle.readback.specs.declared.operands.Number.{Number}
 use Rattle.readback.specs.declared.operands.Spoken.{Spoken}
 use Rattle.readback.specs.declared.operands.Spoken.TheVariants as K
-use Rattle.readback.specs.Operands.{Said, said, and_then, operand_for}
+use Rattle.readback.specs.Operands.{Said, and_then, operand_for}
 
 -- parts
 

@@ -9,12 +9,11 @@ use native.Mathlib.Omega.{arith}
 use lib.Dec.{leb, ltb}
 use lib.ListN.{length, take, drop, length-drop, length-append, length-take}
 use lib.Seq.{sets}
-use borrow.Author.Tests.{le-leb, lt-leb, leb-true, leb-false}
+use borrow.Author.Tests.{lt-leb, leb-true, leb-false}
 use Rattle.op.specs.Names.{name_of}
 use Rattle.op.specs.Opcodes.{last_opcode}
-use Rattle.op.specs.declared.Operand.{Operand}
 use Rattle.op.specs.declared.Refusal.{Refusal}
-use Rattle.op.specs.declared.Refusal.TheVariants.{TooLarge, Full}
+use Rattle.op.specs.declared.Refusal.TheVariants.{Full}
 use Rattle.op.specs.declared.Table.TheVariants.{Text}
 use Rattle.code.specs.Decode.{decode}
 use Rattle.code.specs.Reading.{Spot, Read, instructions_from}
@@ -22,13 +21,12 @@ use Rattle.code.specs.declared.Step.{Step}
 use Rattle.code.specs.declared.Step.TheVariants as S
 use Rattle.code.proofs.Decoding.{decode_end, decode_past}
 use Rattle.code.proofs.Instructions.{reads_end}
-use Rattle.text.specs.Fitting.{Line, line_to, text_of, Part, no_line, onto, fit, said_of, listed_of, listed_in}
+use Rattle.text.specs.Fitting.{Line, line_to, text_of, Part, no_line, fit, said_of, listed_of, listed_in}
 use Rattle.text.specs.Joined.{Runs, ends, goes, Joins}
 use Rattle.text.specs.Lines.{column_of, end_line, end_lines, spots_then, stop_lines, read_lines, lines_from, lines_at}
 use Rattle.text.specs.Lines.{listed_code, plain_lines, checked_header, checked_lines, checked_listing_of}
 use Rattle.text.specs.Listing.{most, fault_line, first_line, spot_line, spot_lines, stop_line, line_of, lines_of}
 use Rattle.text.specs.Listing.{listing_of, rest_of}
-use Rattle.text.specs.declared.Listed.{Listed}
 use Rattle.text.specs.declared.Listed.TheVariants as L
 use Rattle.text.proofs.Pieces.{from_line, from_end, from_fault, fit_line, fit_full, fit_none}
 use Rattle.text.proofs.Progressing.{column_past, end_none}

@@ -1,8 +1,8 @@
 -- The two listings from a cursor on, of what was put behind their first line.
 -- Assumes nothing.
-use mathlib.Core.Path.{◌≡◌, refl, sym, ap, ◌∙◌, subst}
+use mathlib.Core.Path.{◌≡◌, refl, ap, subst}
 use mathlib.Core.Bool.{Bool, true, false, cond}
-use mathlib.Core.List.{List, [], ◌∷◌}
+use mathlib.Core.List.{List, []}
 use Prim.Native.Nat.{ℕ, zero, suc, ◌+◌, ◌-◌, ◌≤◌, ◌<◌}
 use native.Mathlib.Omega.{arith}
 use lib.Dec.{leb, ltb}
@@ -13,7 +13,7 @@ use Rattle.op.specs.declared.Refusal.{Refusal}
 use Rattle.op.specs.declared.Refusal.TheVariants.{Full, TooLarge, ShortDepths}
 use Rattle.op.specs.declared.Table.TheVariants.{Text}
 use Rattle.code.specs.Tables.{code_limit}
-use Rattle.text.specs.Fitting.{line_to, fit, listed_of, listed_in, Lists}
+use Rattle.text.specs.Fitting.{line_to, listed_of, listed_in, Lists}
 use Rattle.text.specs.Lines.{lines_from, lines_at, listed_code, plain_lines, checked_header, checked_lines}
 use Rattle.text.specs.Lines.{ListsChecked}
 use Rattle.text.specs.Listing.{most, first_line}
@@ -21,7 +21,6 @@ use Rattle.text.specs.Inner.{Goes}
 use Rattle.text.specs.Put.{Places, placed_of, written}
 use Rattle.text.specs.declared.Listed.{Listed}
 use Rattle.text.specs.declared.Listed.TheVariants as L
-use Rattle.text.specs.declared.Placed.{Placed}
 use Rattle.text.specs.declared.Placed.TheVariants as P
 use Rattle.text.proofs.Pieces.{fit_full}
 use Rattle.text.proofs.Progressing.{lists_on, lists_first}

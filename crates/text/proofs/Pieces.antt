@@ -1,14 +1,12 @@
 -- Laws of the listings in lines: what a step's line is, what fits, and what a part leaves.
 -- Assumes nothing.
 use mathlib.Core.Path.{◌≡◌, refl, sym, ap, ◌∙◌}
-use mathlib.Core.Bool.{Bool, true, false}
-use mathlib.Core.List.{List, [], ◌∷◌, ◌++◌, append-nil, append_assoc}
-use Prim.Native.Nat.{ℕ, zero, suc, ◌+◌, ◌-◌, ◌≤◌, ◌<◌}
+use mathlib.Core.Bool.{true, false}
+use mathlib.Core.List.{List, [], ◌∷◌, ◌++◌, append_assoc}
+use Prim.Native.Nat.{ℕ, suc, ◌+◌, ◌-◌, ◌≤◌, ◌<◌}
 use native.Mathlib.Omega.{arith}
-use lib.Dec.{leb, ltb}
-use lib.ListN.{length, drop, length-drop, length-append}
-use lib.Seq.{sets, drop-drop, length-sets}
-use borrow.Author.Tests.{le-leb, lt-leb, leb-true, leb-false}
+use lib.ListN.{length, drop, length-drop}
+use borrow.Author.Tests.{le-leb, lt-leb}
 use Rattle.op.specs.Names.{name_of}
 use Rattle.op.specs.Opcodes.{last_opcode}
 use Rattle.op.specs.declared.Operand.{Operand}
@@ -17,7 +15,7 @@ use Rattle.code.specs.Decode.{decode}
 use Rattle.code.specs.declared.Step.{Step}
 use Rattle.code.specs.declared.Step.TheVariants as S
 use Rattle.code.proofs.Instructions.{reads_on, reads_end, reads_fault}
-use Rattle.text.specs.Fitting.{Line, line_to, text_of, Part, no_line, onto, fit}
+use Rattle.text.specs.Fitting.{Line, line_to, Part, no_line, onto, fit}
 use Rattle.text.specs.Lines.{column_of, end_lines, read_lines, lines_from}
 use Rattle.text.specs.Listing.{line_by, line_of}
 use Rattle.text.proofs.Whole.{faulted}

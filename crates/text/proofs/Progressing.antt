@@ -1,10 +1,9 @@
 -- Laws of the progress of a part: what a line more says, and what is said where the lines end.
 -- Assumes nothing.
-use mathlib.Core.Path.{◌≡◌, refl, sym, ap, ◌∙◌, subst}
+use mathlib.Core.Path.{◌≡◌, refl, sym, ap, ◌∙◌}
 use mathlib.Core.Bool.{Bool, true, false, cond}
 use mathlib.Core.List.{List, [], ◌∷◌, ◌++◌, append-nil}
 use Prim.Native.Nat.{ℕ, suc, ◌+◌, ◌-◌, ◌≤◌, ◌<◌}
-use native.Mathlib.Nat.{add-zero}
 use native.Mathlib.Decide.{dec_lt}
 use native.Mathlib.Omega.{arith}
 use lib.Dec.{leb, ltb}
@@ -30,7 +29,7 @@ use Rattle.text.specs.Fields.{line_text, Lean}
 use Rattle.text.specs.Listing.{fault_line, line_of}
 use Rattle.text.specs.Inner.{went_by, step_text, step_next, step_more, Steps, Lent, left, turns, Fills, Told}
 use Rattle.text.specs.Inner.{said_by, Goes}
-use Rattle.text.specs.Put.{Put, Places, placed_of, written}
+use Rattle.text.specs.Put.{Places, placed_of, written}
 use Rattle.text.specs.declared.lister.Progress.{Progress}
 use Rattle.text.specs.declared.Listed.{Listed}
 use Rattle.text.specs.declared.Placed.{Placed}
