@@ -149,9 +149,9 @@ fn line_of(source_folder: &Path, path: &Path, function: &Function<'_>) -> String
     format!("| `{place}::{}` | `{}` |\n", function.name, promises.join("`; `"))
 }
 
-/// What a clause says, without the signs around it.
+/// What a clause says: what stands between its braces. A name before them is left out.
 fn said(clause: &str) -> String {
-    let inner = clause.split_once('⌜').and_then(|(_, rest)| rest.rsplit_once('⌝')).map_or(clause, |(inner, _)| inner);
+    let inner = clause.split_once('{').and_then(|(_, rest)| rest.rsplit_once('}')).map_or(clause, |(inner, _)| inner);
     inner.split_whitespace().collect::<Vec<_>>().join(" ")
 }
 

@@ -532,7 +532,7 @@ fn a_file_is_written_whole_or_not_at_all() {
     fs::remove_dir_all(&folder).expect("the folder is removed");
 }
 
-/// The listing is a program of its own, which is there once `rt check listing` was run.
+/// The listing is a program of its own, which is there once `tools/program listing` was run.
 #[test]
 fn listings_come_from_the_proved_program() {
     if !repository("target/bin/listing").is_file() {

@@ -40,7 +40,7 @@ pub fn run(file: &OsStr) -> Outcome {
     Ok(!ends_in_fault(&printed.stdout))
 }
 
-/// Where `rt check listing` puts it.
+/// Where `tools/program listing` puts it.
 fn program() -> PathBuf {
     let root = match env::var_os("TOKENFINCH_ROOT") {
         Some(root) => PathBuf::from(root),

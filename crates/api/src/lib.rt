@@ -1,6 +1,6 @@
-// What C and Rust call: the opcode rules, the decoder's step, the instruction writer, the depth checker and the
-// lookups, on numbers and slices of numbers. include/tokenfinch.h declares these functions and says in words what
-// they promise here.
+// The opcode rules, the decoder's step, the instruction writer, the depth checker and the lookups, on numbers and slices of
+// numbers: what C and Rust call by way of crate tokenfinch, which exports these functions with their promises.
+// include/tokenfinch.h declares them and says in words what they promise here.
 #![tactic(auto)]
 
 ghost use Rattle.std.specs.Prelude.{◌≡◌, length, drop};
@@ -62,8 +62,7 @@ pub struct Values {
     pub c: u8,
 }
 
-#[unsafe(no_mangle)]
-pub extern "C" fn tf_operand_shape(opcode: u8) -> u64
+pub fn tf_operand_shape(opcode: u8) -> u64
     ensures { result ≡ shape_answer (shape_of opcode) }
 {
     let shaped = op::shapes::operand_shape(opcode);
@@ -73,22 +72,19 @@ pub extern "C" fn tf_operand_shape(opcode: u8) -> u64
     }
 }
 
-#[unsafe(no_mangle)]
-pub extern "C" fn tf_stack_effect(opcode: u8, shape: u8, a: u16, b: u16, c: u8, names: u8) -> u64
+pub fn tf_stack_effect(opcode: u8, shape: u8, a: u16, b: u16, c: u8, names: u8) -> u64
     ensures { result ≡ net_answer (net_of (effect_given opcode (given_of shape a b c names))) }
 {
     answers::of_effect(operands::effect(opcode, operands::operand(shape, a, b, c, names)))
 }
 
-#[unsafe(no_mangle)]
-pub extern "C" fn tf_jump_taken_stack_effect(opcode: u8) -> u64
+pub fn tf_jump_taken_stack_effect(opcode: u8) -> u64
     ensures { result ≡ net_answer (net_of (taken_of opcode)) }
 {
     answers::of_effect(op::effects::taken_effect(opcode))
 }
 
-#[unsafe(no_mangle)]
-pub extern "C" fn tf_makes_dead(opcode: u8) -> u64
+pub fn tf_makes_dead(opcode: u8) -> u64
     ensures { result ≡ dead_answer (deadness_of opcode) }
 {
     let deadness = op::effects::makes_dead(opcode);
@@ -99,30 +95,19 @@ pub extern "C" fn tf_makes_dead(opcode: u8) -> u64
     }
 }
 
-#[unsafe(no_mangle)]
-pub extern "C" fn tf_depth_after(
-    depth: u16,
-    opcode: u8,
-    shape: u8,
-    a: u16,
-    b: u16,
-    c: u8,
-    names: u8,
-) -> u64
+pub fn tf_depth_after(depth: u16, opcode: u8, shape: u8, a: u16, b: u16, c: u8, names: u8) -> u64
     ensures { result ≡ depth_answer (after_given depth opcode (given_of shape a b c names)) }
 {
     answers::of_depth(operands::after(depth, opcode, operands::operand(shape, a, b, c, names)))
 }
 
-#[unsafe(no_mangle)]
-pub extern "C" fn tf_depth_taken(depth: u16, opcode: u8) -> u64
+pub fn tf_depth_taken(depth: u16, opcode: u8) -> u64
     ensures { result ≡ depth_answer (taken_depth_of depth opcode) }
 {
     answers::of_depth(op::depths::taken(depth, opcode))
 }
 
-#[unsafe(no_mangle)]
-pub extern "C" fn tf_instruction_size(opcode: u8, names: u8) -> u64
+pub fn tf_instruction_size(opcode: u8, names: u8) -> u64
     ensures { result ≡ size_answer (shape_of opcode) names }
 {
     let shaped = op::shapes::operand_shape(opcode);
@@ -132,8 +117,7 @@ pub extern "C" fn tf_instruction_size(opcode: u8, names: u8) -> u64
     }
 }
 
-#[unsafe(no_mangle)]
-pub extern "C" fn tf_opcode_name(opcode: u8, out: &mut [u8]) -> u64
+pub fn tf_opcode_name(opcode: u8, out: &mut [u8]) -> u64
     ensures { (result ≡ name_answer opcode (length out.old))
         × (out.new ≡ name_cells opcode out.old) }
 {
@@ -149,8 +133,7 @@ pub extern "C" fn tf_opcode_name(opcode: u8, out: &mut [u8]) -> u64
     answers::copy(name, out)
 }
 
-#[unsafe(no_mangle)]
-pub extern "C" fn tf_assert_flags(comparison: u8) -> u8
+pub fn tf_assert_flags(comparison: u8) -> u8
     ensures { result ≡ flags_given comparison }
 {
     match comparison {
@@ -169,8 +152,7 @@ pub extern "C" fn tf_assert_flags(comparison: u8) -> u8
     }
 }
 
-#[unsafe(no_mangle)]
-pub extern "C" fn tf_decode_assert_flags(flags: u8) -> u8
+pub fn tf_decode_assert_flags(flags: u8) -> u8
     ensures { result ≡ flags_answer (decoded_flags flags) }
 {
     let decoded = op::flags::decode_assert_flags(flags);
@@ -180,22 +162,19 @@ pub extern "C" fn tf_decode_assert_flags(flags: u8) -> u8
     }
 }
 
-#[unsafe(no_mangle)]
-pub extern "C" fn tf_fingerprint() -> u64
+pub fn tf_fingerprint() -> u64
     ensures { result ≡ fingerprint }
 {
     fingerprint::opcode_fingerprint()
 }
 
-#[unsafe(no_mangle)]
-pub extern "C" fn tf_fnv1a(bytes: &[u8]) -> u64
+pub fn tf_fnv1a(bytes: &[u8]) -> u64
     ensures { result ≡ fnv1a_of bytes.now }
 {
     fingerprint::fnv1a(bytes)
 }
 
-#[unsafe(no_mangle)]
-pub extern "C" fn tf_count_instructions(code: &[u8]) -> u64
+pub fn tf_count_instructions(code: &[u8]) -> u64
     ensures { result ≡ count_answer code.now }
 {
     if CODE_LIMIT < code.len() {
@@ -208,8 +187,7 @@ pub extern "C" fn tf_count_instructions(code: &[u8]) -> u64
     }
 }
 
-#[unsafe(no_mangle)]
-pub extern "C" fn tf_step(code: &[u8], at: usize, out: &mut [u64]) -> u64
+pub fn tf_step(code: &[u8], at: usize, out: &mut [u64]) -> u64
     ensures { Tells (step_told at (decode last_opcode at (drop at code.now))) out.old result
         out.new }
 {
@@ -225,16 +203,7 @@ pub extern "C" fn tf_step(code: &[u8], at: usize, out: &mut [u64]) -> u64
     }
 }
 
-#[unsafe(no_mangle)]
-pub extern "C" fn tf_write(
-    out: &mut [u8],
-    opcode: u8,
-    shape: u8,
-    a: u16,
-    b: u16,
-    c: u8,
-    names: &[u16],
-) -> u64
+pub fn tf_write(out: &mut [u8], opcode: u8, shape: u8, a: u16, b: u16, c: u8, names: &[u16]) -> u64
     ensures { WritesGiven opcode (given_of shape a b c (length names.now)) names.now
         out.old result out.new }
 {
@@ -249,8 +218,7 @@ pub extern "C" fn tf_write(
     )
 }
 
-#[unsafe(no_mangle)]
-pub extern "C" fn tf_check(
+pub fn tf_check(
     mode: u8,
     code: &[u8],
     starts: &[u32],
@@ -268,8 +236,7 @@ pub extern "C" fn tf_check(
     answers::tell_checked(checked, greatest)
 }
 
-#[unsafe(no_mangle)]
-pub extern "C" fn tf_explain(
+pub fn tf_explain(
     mode: u8,
     code: &[u8],
     starts: &[u32],
@@ -292,8 +259,7 @@ pub extern "C" fn tf_explain(
     reasons::tell_verdict(verdict, greatest, told)
 }
 
-#[unsafe(no_mangle)]
-pub extern "C" fn tf_list(code: &[u8], from: usize, text: &mut [u8], told: &mut [u64]) -> u64
+pub fn tf_list(code: &[u8], from: usize, text: &mut [u8], told: &mut [u64]) -> u64
     ensures { ListingTold (Lists (plain_lines code.now from) from text.old)
         text.old told.old result text.new told.new }
 {
@@ -303,8 +269,7 @@ pub extern "C" fn tf_list(code: &[u8], from: usize, text: &mut [u8], told: &mut 
     parts::tell_part(listing::list(code, from, text), told)
 }
 
-#[unsafe(no_mangle)]
-pub extern "C" fn tf_check_listing(
+pub fn tf_check_listing(
     code: &[u8],
     depths: &[u32],
     from: usize,
@@ -320,8 +285,7 @@ pub extern "C" fn tf_check_listing(
     parts::tell_part(listing::list_checked(code, depths, from, text), told)
 }
 
-#[unsafe(no_mangle)]
-pub extern "C" fn tf_location_for_offset(rows: &[u32], offset: usize, out: &mut [u64]) -> u64
+pub fn tf_location_for_offset(rows: &[u32], offset: usize, out: &mut [u64]) -> u64
     ensures { Tells (located_told (location_of rows.now offset)) out.old result
         out.new }
 {
@@ -332,8 +296,7 @@ pub extern "C" fn tf_location_for_offset(rows: &[u32], offset: usize, out: &mut 
     }
 }
 
-#[unsafe(no_mangle)]
-pub extern "C" fn tf_find_exception_handler(rows: &[u32], offset: u32, out: &mut [u64]) -> u64
+pub fn tf_find_exception_handler(rows: &[u32], offset: u32, out: &mut [u64]) -> u64
     ensures { Tells (handled_told (handler_of rows.now offset)) out.old result
         out.new }
 {
@@ -344,8 +307,7 @@ pub extern "C" fn tf_find_exception_handler(rows: &[u32], offset: u32, out: &mut
     }
 }
 
-#[unsafe(no_mangle)]
-pub extern "C" fn tf_find_in_two(rows: &[u32], offset: u32, out: &mut [u64]) -> u64
+pub fn tf_find_in_two(rows: &[u32], offset: u32, out: &mut [u64]) -> u64
     ensures { Tells (two_told rows.now offset) out.old result out.new }
 {
     if rows.len() < 12 {
@@ -359,8 +321,7 @@ pub extern "C" fn tf_find_in_two(rows: &[u32], offset: u32, out: &mut [u64]) -> 
     )
 }
 
-#[unsafe(no_mangle)]
-pub extern "C" fn tf_constant(constants: &[u64], index: usize, out: &mut [u64]) -> u64
+pub fn tf_constant(constants: &[u64], index: usize, out: &mut [u64]) -> u64
     ensures { Tells (constant_told (constant_of constants.now index)) out.old result
         out.new }
 {
@@ -371,8 +332,7 @@ pub extern "C" fn tf_constant(constants: &[u64], index: usize, out: &mut [u64]) 
     }
 }
 
-#[unsafe(no_mangle)]
-pub extern "C" fn tf_local_name(names: &[u64], slot: usize, out: &mut [u64]) -> u64
+pub fn tf_local_name(names: &[u64], slot: usize, out: &mut [u64]) -> u64
     ensures { Tells (name_told (local_name_of names.now slot)) out.old result out.new }
 {
     let name = code::lookups::local_name(names, slot);
@@ -382,8 +342,7 @@ pub extern "C" fn tf_local_name(names: &[u64], slot: usize, out: &mut [u64]) -> 
     }
 }
 
-#[unsafe(no_mangle)]
-pub extern "C" fn tf_read_listing(text: &[u8], code: &mut [u8]) -> u64
+pub fn tf_read_listing(text: &[u8], code: &mut [u8]) -> u64
     ensures { ReadsTold text.now code.old result code.new }
 {
     let read = readback::read_listing(text, code);

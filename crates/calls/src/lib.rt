@@ -1,6 +1,7 @@
-// What C calls to build: the builder's calls, on numbers and slices of numbers. The state is in 17 lent cells, and no
-// call trusts them. Cells that hold no state are refused by 19, an argument that the builder's own call cannot be given
-// by 2, and then the call answers as the builder's does. A refusal changes no cell.
+// The builder's calls, on numbers and slices of numbers: what C calls to build, by way of crate tokenfinch, which exports
+// these functions with their promises. The state is in 17 lent cells, and no call trusts them. Cells that hold no state are
+// refused by 19, an argument that the builder's own call cannot be given by 2, and then the call answers as the builder's
+// does. A refusal changes no cell.
 #![tactic(auto)]
 
 ghost use Rattle.builder.specs.Answers.{answer_told};
@@ -72,8 +73,7 @@ pub struct Place {
 }
 
 // A new builder: live at a depth, or dead at 65,536.
-#[unsafe(no_mangle)]
-pub extern "C" fn tfb_new(depth: u32, state: &mut [u64], starts: &mut [u32]) -> u64
+pub fn tfb_new(depth: u32, state: &mut [u64], starts: &mut [u32]) -> u64
     ensures { KeptLeaves (new_in depth state.old starts.old)
         state.old result state.new starts.new }
 {
@@ -89,8 +89,7 @@ pub extern "C" fn tfb_new(depth: u32, state: &mut [u64], starts: &mut [u32]) -> 
 }
 
 // Sets the source location of the instructions to come.
-#[unsafe(no_mangle)]
-pub extern "C" fn tfb_set_location(
+pub fn tfb_set_location(
     start: u32,
     end: u32,
     has_focus: u8,
@@ -115,8 +114,7 @@ pub extern "C" fn tfb_set_location(
 }
 
 // Any emitting call without a jump, by its number: crates/builder/src/numbered.rt has the list.
-#[unsafe(no_mangle)]
-pub extern "C" fn tfb_emit(
+pub fn tfb_emit(
     call: u8,
     opcode: u8,
     a: u16,
@@ -140,8 +138,7 @@ pub extern "C" fn tfb_emit(
 }
 
 // A jump forward; its label is the value.
-#[unsafe(no_mangle)]
-pub extern "C" fn tfb_emit_jump(
+pub fn tfb_emit_jump(
     opcode: u8,
     state: &mut [u64],
     code: &mut [u8],
@@ -161,13 +158,7 @@ pub extern "C" fn tfb_emit_jump(
 }
 
 // Has a label's jump go to where the code now ends.
-#[unsafe(no_mangle)]
-pub extern "C" fn tfb_patch_jump(
-    label: u64,
-    state: &mut [u64],
-    code: &mut [u8],
-    marks: &mut [u32],
-) -> u64
+pub fn tfb_patch_jump(label: u64, state: &mut [u64], code: &mut [u8], marks: &mut [u32]) -> u64
     ensures { PatchLeaves (patch_jump_in label state.old code.old marks.old)
         state.old result state.new code.new marks.new }
 {
@@ -180,8 +171,7 @@ pub extern "C" fn tfb_patch_jump(
 }
 
 // A jump back to a target.
-#[unsafe(no_mangle)]
-pub extern "C" fn tfb_emit_jump_to(
+pub fn tfb_emit_jump_to(
     opcode: u8,
     target: u64,
     state: &mut [u64],
@@ -202,8 +192,7 @@ pub extern "C" fn tfb_emit_jump_to(
 }
 
 // The place here as a target, which is the value.
-#[unsafe(no_mangle)]
-pub extern "C" fn tfb_current_jump_target(state: &mut [u64], marks: &mut [u32]) -> u64
+pub fn tfb_current_jump_target(state: &mut [u64], marks: &mut [u32]) -> u64
     ensures { TargetLeaves (current_jump_target_in state.old marks.old)
         state.old result state.new marks.new }
 {
@@ -216,12 +205,7 @@ pub extern "C" fn tfb_current_jump_target(state: &mut [u64], marks: &mut [u32]) 
 }
 
 // Names the slots 0, 1, .. before any other name.
-#[unsafe(no_mangle)]
-pub extern "C" fn tfb_register_local_names(
-    names: &[u32],
-    state: &mut [u64],
-    table: &mut [u64],
-) -> u64
+pub fn tfb_register_local_names(names: &[u32], state: &mut [u64], table: &mut [u64]) -> u64
     ensures { KeptLeaves (register_local_names_in names.now state.old table.old)
         state.old result state.new table.new }
 {
@@ -234,13 +218,7 @@ pub extern "C" fn tfb_register_local_names(
 }
 
 // Names a slot that has no name yet.
-#[unsafe(no_mangle)]
-pub extern "C" fn tfb_register_local_name(
-    slot: u16,
-    name: u32,
-    state: &mut [u64],
-    table: &mut [u64],
-) -> u64
+pub fn tfb_register_local_name(slot: u16, name: u32, state: &mut [u64], table: &mut [u64]) -> u64
     ensures { KeptLeaves (register_local_name_in slot name state.old table.old)
         state.old result state.new table.new }
 {
@@ -253,8 +231,7 @@ pub extern "C" fn tfb_register_local_name(
 }
 
 // Adds a constant; its index is the value.
-#[unsafe(no_mangle)]
-pub extern "C" fn tfb_add_const(value: u64, state: &mut [u64], constants: &mut [u64]) -> u64
+pub fn tfb_add_const(value: u64, state: &mut [u64], constants: &mut [u64]) -> u64
     ensures { AddedLeaves (add_const_in value state.old constants.old)
         state.old result state.new constants.new }
 {
@@ -267,8 +244,7 @@ pub extern "C" fn tfb_add_const(value: u64, state: &mut [u64], constants: &mut [
 }
 
 // Adds an exception handler; kind 0 is Consuming, 1 Cleanup.
-#[unsafe(no_mangle)]
-pub extern "C" fn tfb_add_exception_entry(
+pub fn tfb_add_exception_entry(
     start: usize,
     end: usize,
     handler: usize,
@@ -303,8 +279,7 @@ pub extern "C" fn tfb_add_exception_entry(
 }
 
 // Opens a region of live code at a depth.
-#[unsafe(no_mangle)]
-pub extern "C" fn tfb_new_code_region(depth: u16, state: &mut [u64], starts: &mut [u32]) -> u64
+pub fn tfb_new_code_region(depth: u16, state: &mut [u64], starts: &mut [u32]) -> u64
     ensures { KeptLeaves (new_code_region_in depth state.old starts.old)
         state.old result state.new starts.new }
 {
@@ -317,8 +292,7 @@ pub extern "C" fn tfb_new_code_region(depth: u16, state: &mut [u64], starts: &mu
 }
 
 // Finishes the body: slots without a name get `fill`.
-#[unsafe(no_mangle)]
-pub extern "C" fn tfb_build(fill: u32, state: &mut [u64], names: &mut [u64], marks: &[u32]) -> u64
+pub fn tfb_build(fill: u32, state: &mut [u64], names: &mut [u64], marks: &[u32]) -> u64
     ensures { KeptLeaves (build_in fill state.old names.old marks.now)
         state.old result state.new names.new }
 {
@@ -331,8 +305,7 @@ pub extern "C" fn tfb_build(fill: u32, state: &mut [u64], names: &mut [u64], mar
 }
 
 // What a builder answers about itself: `current_offset`, `stack_depth`, `is_dead` and `current_position`.
-#[unsafe(no_mangle)]
-pub extern "C" fn tfb_look(state: &[u64], out: &mut [u64]) -> u64
+pub fn tfb_look(state: &[u64], out: &mut [u64]) -> u64
     ensures { look result out.new ≡ look_in state.now out.old }
 {
     let held = reading::state_in(state);

@@ -5,8 +5,8 @@
 
 use builder::{Answer, Builder, Depth, Jumped};
 use code::{CodeRange, Focus};
-use libc::STDOUT_FILENO;
 use op::opcodes;
+use std::io;
 
 const ROUNDS: u32 = 572;
 
@@ -108,7 +108,7 @@ fn rounds(
     size
 }
 
-fn main() {
+fn main(rt: HostRuntime) -> io::Result<()> {
     let mut code = [0u8; 65536];
     let mut locations = [0u32; 106000];
     let mut marks = [0u32; 10000];
@@ -117,5 +117,5 @@ fn main() {
     let low = (size % 256) as u8;
     let high = (size / 256 % 256) as u8;
     let text = [low, high];
-    io::write_all(STDOUT_FILENO, &text);
+    rt.write_all(&text)
 }

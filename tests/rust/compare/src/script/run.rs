@@ -51,9 +51,9 @@ fn root() -> PathBuf {
         .to_owned()
 }
 
-/// The proved program that prints listings, which `rt check listing` builds.
+/// The proved program that prints listings, which `tools/program listing` puts there.
 pub fn listing() -> PathBuf {
-    program_at("target/bin/listing", "rt check listing")
+    program_at("target/bin/listing", "tools/program listing")
 }
 
 /// The program that runs scripts, over the archive that is compared, which tests/rust/run builds.

@@ -1,0 +1,10 @@
+-- `emission::rounds` ends: each round is one fewer to come.
+-- Assumes nothing.
+use Rattle.std.specs.Prelude.{◌-◌}
+use Rattle.emission.proofs.rounds.Given as goal
+
+abbrev pub invariant-loop-i : goal.invariant-loop-i
+invariant-loop-i l = Unit {0}
+
+abbrev pub decreases-loop-i : goal.decreases-loop-i
+decreases-loop-i l = 572 - l.i
