@@ -1,0 +1,7 @@
+-- `api::pairs::row_of` meets its contract, field by field.
+-- Assumes nothing.
+use borrow.Author.Rules.{rules}
+use Rattle.api.proofs.pairs.row_of.Goals as goal
+
+pub returns : goal.returns
+returns c = rw c.kind_number.ensures

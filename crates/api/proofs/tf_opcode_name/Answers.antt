@@ -1,0 +1,30 @@
+-- `api::tf_opcode_name` meets its contract: what `of_opcode` answers over the two tables is the name, and `copy`
+-- writes it.
+-- Assumes nothing.
+use mathlib.Core.Path.{◌≡◌, ◌∙◌, sym, ap}
+use Rattle.api.proofs.Naming.{name_unknown, name_is, name_full, name_written}
+use borrow.Author.Rules.{rules}
+use Rattle.api.proofs.tf_opcode_name.Goals as goal
+
+pub returns-then-opcode-gt-LAST : goal.returns-then-opcode-gt-LAST
+returns-then-opcode-gt-LAST c =
+    let a = c.args in
+    let n = name_unknown a.opcode a.out.now c.if-opcode-gt-LAST.true in
+    (c.refused.ensures ∙ n.0, n.1)
+
+pub returns-then-out-name : goal.returns-then-out-name
+returns-then-out-name c =
+    let a = c.args in
+    let n = name_full a.opcode _ a.out.now c.if-opcode-gt-LAST.false
+    (name_is a.opcode _ _ _ c.if-opcode-gt-LAST.false c.of_opcode-name.ensures c.text-text.ensures
+    c.starts-starts.ensures) c.if-out-name.true in
+    (c.refused-then-out-name.ensures ∙ n.0, n.1)
+
+pub returns : goal.returns
+returns c =
+    let a = c.args in
+    let w = c.copy.ensures in
+    let n = name_written a.opcode _ a.out.now c.if-opcode-gt-LAST.false
+    (name_is a.opcode _ _ _ c.if-opcode-gt-LAST.false c.of_opcode-name.ensures c.text-text.ensures
+    c.starts-starts.ensures) c.if-out-name.false in
+    (w.0 ∙ n.0, w.1 ∙ n.1)

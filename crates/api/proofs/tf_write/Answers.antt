@@ -1,0 +1,16 @@
+-- `api::tf_write` meets its contract: over 255 names nothing is written, else the given operand's writer does.
+-- Assumes nothing.
+use mathlib.Core.Path.{◌∙◌, ap}
+use borrow.Author.Rules.{rules}
+use Rattle.api.specs.Answers.{refused}
+use Rattle.api.proofs.Writes.{writes_many, writes_as}
+use Rattle.api.proofs.tf_write.Goals as goal
+
+pub returns-then-names-gt255 : goal.returns-then-names-gt255
+returns-then-names-gt255 c =
+    let a = c.args in
+    writes_many a.opcode _ a.names.now a.out.now _ c.if-names-gt255.true
+    (c.refused.ensures ∙ ap refused c.no_write.ensures)
+
+pub returns : goal.returns
+returns c = writes_as _ _ _ _ _ _ _ c.operand.ensures c.write.ensures
