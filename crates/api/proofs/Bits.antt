@@ -1,12 +1,11 @@
 -- The 32 bits of a net effect, without signed numbers.
 -- Assumes nothing.
-use mathlib.Core.Path.{◌≡◌, refl, sym, ap, ◌∙◌}
+use mathlib.Core.Path.{◌≡◌, refl}
 use mathlib.Core.Bool.{Bool, true, false, cond}
 use Prim.Native.Nat.{ℕ, suc, ◌+◌, ◌-◌, ◌%◌, ◌<◌, ◌≤◌}
 use native.Mathlib.Omega.{arith}
-use native.Mathlib.Decide.{dec_lt}
 use lib.Dec.{ltb}
-use lib.IntN.{ℤ, pos, negsuc, sub_ℕ}
+use lib.IntN.{pos, negsuc, sub_ℕ}
 use borrow.Author.Tests.{ltb-true, ltb-false}
 use Rattle.code.specs.Bytes.{unsigned}
 use Rattle.op.specs.Refusals.{half}

@@ -1,7 +1,7 @@
 -- How answers cross to C: one 64-bit number. Its upper half is 0 or the refusal's number, its lower half the value's
 -- 32 bits or what the refusal names. The header says the same in words.
 -- Assumes nothing.
-use Rattle.std.specs.Prelude.{cond, List, [], ℕ, leb, length}
+use Rattle.std.specs.Prelude.{cond, List, ℕ, leb, length}
 use Rattle.op.specs.Names.{name_of}
 use Rattle.op.specs.Opcodes.{last_opcode, known}
 use Rattle.op.specs.Refusals.{half, answer_of}

@@ -1,6 +1,6 @@
 -- An operand and a comparison given as numbers.
 -- Assumes nothing.
-use Rattle.std.specs.Prelude.{Bool, cond, List, [], ◌∷◌, ℕ, ltb, get_or}
+use Rattle.std.specs.Prelude.{cond, List, [], ◌∷◌, ℕ, ltb, get_or}
 use Rattle.op.specs.Depths.{after_of}
 use Rattle.op.specs.Effects.{effect_of}
 use Rattle.op.specs.Flags.{comparison_number, flags_of}
@@ -10,7 +10,6 @@ use Rattle.op.specs.declared.After.TheVariants as A
 use Rattle.op.specs.declared.AssertFlags.{AssertFlags}
 use Rattle.op.specs.declared.AssertFlags.TheVariants as F
 use Rattle.op.specs.declared.CmpOperator.TheVariants.{Eq, NotEq, Lt, LtE, Gt, GtE, Is, IsNot, In, NotIn}
-use Rattle.op.specs.declared.Compared.{Compared}
 use Rattle.op.specs.declared.Compared.TheVariants as C
 use Rattle.op.specs.declared.Effect.{Effect}
 use Rattle.op.specs.declared.Effect.TheVariants as E

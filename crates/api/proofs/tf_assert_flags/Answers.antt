@@ -5,7 +5,6 @@ use native.Mathlib.Omega.{arith}
 use Rattle.base.proofs.Keys.{at, past}
 use Rattle.api.specs.Given.{flags_given}
 use Rattle.api.proofs.Givens.{no_comparison}
-use borrow.Author.Rules.{rules}
 use Rattle.api.proofs.tf_assert_flags.Goals as goal
 
 pub returns-in-0 : goal.returns-in-0

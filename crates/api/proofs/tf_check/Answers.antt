@@ -4,7 +4,6 @@ use mathlib.Core.Path.{◌≡◌, refl}
 use mathlib.Core.List.{List}
 use Prim.Native.Nat.{ℕ}
 use native.Mathlib.Omega.{arith}
-use borrow.Author.Rules.{rules}
 use Rattle.op.specs.Opcodes.{last_opcode}
 use Rattle.checker.specs.declared.Checked.{Checked}
 use Rattle.strict.specs.declared.Mode.{Mode}

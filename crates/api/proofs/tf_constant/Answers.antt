@@ -3,7 +3,6 @@
 use mathlib.Core.Path.{◌∙◌, sym, ap}
 use Rattle.api.specs.Tables.{constant_told}
 use Rattle.api.proofs.Telling.{tells_as, tells_nothing}
-use borrow.Author.Rules.{rules}
 use Rattle.api.proofs.tf_constant.Goals as goal
 
 pub returns-in-Value : goal.returns-in-Value

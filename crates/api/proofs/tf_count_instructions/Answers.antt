@@ -1,9 +1,8 @@
 -- `api::tf_count_instructions` meets its contract, case by case of the count.
 -- Assumes nothing.
-use mathlib.Core.Path.{◌≡◌, ◌∙◌, sym, ap}
+use mathlib.Core.Path.{◌∙◌, sym, ap}
 use borrow.Author.Tests.{lt-leb, le-leb}
 use Rattle.api.specs.Answers.{counted, count_answer}
-use borrow.Author.Rules.{rules}
 use Rattle.api.proofs.tf_count_instructions.Goals as goal
 
 pub returns-then-code-gt-CODE_LIMIT : goal.returns-then-code-gt-CODE_LIMIT

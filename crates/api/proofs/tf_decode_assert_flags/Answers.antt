@@ -1,8 +1,7 @@
 -- `api::tf_decode_assert_flags` meets its contract, by what the decoded byte is.
 -- Assumes nothing.
-use mathlib.Core.Path.{◌≡◌, ◌∙◌, sym, ap}
+use mathlib.Core.Path.{◌∙◌, sym, ap}
 use Rattle.api.specs.Given.{flags_answer}
-use borrow.Author.Rules.{rules}
 use Rattle.api.proofs.tf_decode_assert_flags.Goals as goal
 
 pub returns-in-Valid : goal.returns-in-Valid

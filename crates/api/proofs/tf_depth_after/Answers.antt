@@ -1,9 +1,8 @@
 -- `api::tf_depth_after` meets its contract: its callees' in a row.
 -- Assumes nothing.
-use mathlib.Core.Path.{◌≡◌, ◌∙◌, sym, ap}
+use mathlib.Core.Path.{◌∙◌, ap}
 use Rattle.api.specs.Answers.{depth_answer}
 use Rattle.api.specs.Given.{after_given}
-use borrow.Author.Rules.{rules}
 use Rattle.api.proofs.tf_depth_after.Goals as goal
 
 pub returns : goal.returns

@@ -1,8 +1,7 @@
 -- `api::tf_depth_taken` meets its contract: its callees' in a row.
 -- Assumes nothing.
-use mathlib.Core.Path.{◌≡◌, ◌∙◌, sym, ap}
+use mathlib.Core.Path.{◌∙◌, ap}
 use Rattle.api.specs.Answers.{depth_answer}
-use borrow.Author.Rules.{rules}
 use Rattle.api.proofs.tf_depth_taken.Goals as goal
 
 pub returns : goal.returns

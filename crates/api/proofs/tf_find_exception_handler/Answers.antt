@@ -3,7 +3,6 @@
 use mathlib.Core.Path.{◌∙◌, sym, ap}
 use Rattle.api.specs.Tables.{handled_told}
 use Rattle.api.proofs.Telling.{tells_as, tells_nothing}
-use borrow.Author.Rules.{rules}
 use Rattle.api.proofs.tf_find_exception_handler.Goals as goal
 
 pub returns-in-Row : goal.returns-in-Row

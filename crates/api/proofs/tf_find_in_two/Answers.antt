@@ -1,6 +1,6 @@
 -- `api::tf_find_in_two` meets its contract: 19 for too few numbers, else what the two records tell.
 -- Assumes nothing.
-use mathlib.Core.Path.{◌≡◌, refl}
+use mathlib.Core.Path.{◌≡◌}
 use mathlib.Core.List.{List}
 use Prim.Native.Nat.{ℕ, ◌≤◌, ◌<◌}
 use lib.ListN.{length}
@@ -10,7 +10,6 @@ use Rattle.api.specs.Pairs.{entry_at, both_told, two_told}
 use Rattle.api.specs.Told.{refusal}
 use Rattle.api.specs.declared.Entered.{Entered}
 use Rattle.api.proofs.Telling.{tells_as, tells_refusal}
-use borrow.Author.Rules.{rules}
 use Rattle.api.proofs.tf_find_in_two.Goals as goal
 
 few : (rows : List ℕ) (offset : ℕ) → length rows < 12 → two_told rows offset ≡ refusal Unsound

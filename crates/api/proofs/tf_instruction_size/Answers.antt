@@ -1,9 +1,8 @@
 -- `api::tf_instruction_size` meets its contract, case by case of the shape's answer.
 -- Assumes nothing.
-use mathlib.Core.Path.{◌≡◌, ◌∙◌, sym, ap}
+use mathlib.Core.Path.{◌∙◌, sym, ap}
 use Rattle.op.specs.declared.Shaped.{Shaped}
 use Rattle.api.specs.Answers.{size_answer}
-use borrow.Author.Rules.{rules}
 use Rattle.api.proofs.tf_instruction_size.Goals as goal
 
 pub returns-in-Is : goal.returns-in-Is

@@ -1,11 +1,10 @@
 -- `api::tf_jump_taken_stack_effect` meets its contract: its callees' in a row.
 -- Assumes nothing.
-use mathlib.Core.Path.{◌≡◌, ◌∙◌, sym, ap, subst}
+use mathlib.Core.Path.{◌∙◌, sym, ap, subst}
 use Rattle.op.specs.Effects.{net_of, Small}
 use Rattle.op.specs.declared.Effect.{Effect}
 use Rattle.op.proofs.Rules.{taken_small}
 use Rattle.api.specs.Answers.{net_answer}
-use borrow.Author.Rules.{rules}
 use Rattle.api.proofs.tf_jump_taken_stack_effect.Goals as goal
 
 pub of_effect-requires : goal.of_effect-requires

@@ -2,7 +2,6 @@
 -- Assumes nothing.
 use mathlib.Core.Path.{refl}
 use native.Mathlib.Omega.{arith}
-use borrow.Author.Rules.{rules}
 use Rattle.api.proofs.tf_list.Goals as goal
 
 pub returns-then-told-lt2 : goal.returns-then-told-lt2

@@ -3,7 +3,6 @@
 use mathlib.Core.Path.{◌∙◌, sym, ap}
 use Rattle.api.specs.Tables.{name_told}
 use Rattle.api.proofs.Telling.{tells_as, tells_nothing}
-use borrow.Author.Rules.{rules}
 use Rattle.api.proofs.tf_local_name.Goals as goal
 
 pub returns-in-Name : goal.returns-in-Name

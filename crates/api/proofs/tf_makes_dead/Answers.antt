@@ -1,8 +1,7 @@
 -- `api::tf_makes_dead` meets its contract, case by case of the answer.
 -- Assumes nothing.
-use mathlib.Core.Path.{◌≡◌, ◌∙◌, sym, ap}
+use mathlib.Core.Path.{◌∙◌, sym, ap}
 use Rattle.api.specs.Answers.{dead_answer}
-use borrow.Author.Rules.{rules}
 use Rattle.api.proofs.tf_makes_dead.Goals as goal
 
 pub returns-in-Dead : goal.returns-in-Dead

@@ -1,9 +1,8 @@
 -- `api::tf_opcode_name` meets its contract: what `of_opcode` answers over the two tables is the name, and `copy`
 -- writes it.
 -- Assumes nothing.
-use mathlib.Core.Path.{◌≡◌, ◌∙◌, sym, ap}
+use mathlib.Core.Path.{◌∙◌}
 use Rattle.api.proofs.Naming.{name_unknown, name_is, name_full, name_written}
-use borrow.Author.Rules.{rules}
 use Rattle.api.proofs.tf_opcode_name.Goals as goal
 
 pub returns-then-opcode-gt-LAST : goal.returns-then-opcode-gt-LAST

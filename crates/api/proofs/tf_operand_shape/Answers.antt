@@ -1,8 +1,7 @@
 -- `api::tf_operand_shape` meets its contract, case by case of the shape's answer.
 -- Assumes nothing.
-use mathlib.Core.Path.{◌≡◌, ◌∙◌, sym, ap}
+use mathlib.Core.Path.{◌∙◌, sym, ap}
 use Rattle.api.specs.Answers.{shape_answer}
-use borrow.Author.Rules.{rules}
 use Rattle.api.proofs.tf_operand_shape.Goals as goal
 
 pub returns-in-Is : goal.returns-in-Is

@@ -1,11 +1,10 @@
 -- `api::tf_stack_effect` meets its contract: its callees' in a row.
 -- Assumes nothing.
-use mathlib.Core.Path.{◌≡◌, ◌∙◌, sym, ap}
+use mathlib.Core.Path.{◌∙◌, ap}
 use Rattle.op.specs.Effects.{net_of}
 use Rattle.op.specs.declared.Effect.{Effect}
 use Rattle.api.specs.Answers.{net_answer}
 use Rattle.api.specs.Given.{effect_given}
-use borrow.Author.Rules.{rules}
 use Rattle.api.proofs.tf_stack_effect.Goals as goal
 
 pub of_effect-requires : goal.of_effect-requires

@@ -6,7 +6,6 @@ use native.Mathlib.Omega.{arith}
 use Rattle.code.proofs.Decoding.{decoded, decoded_ends}
 use Rattle.api.specs.Steps.{step_told}
 use Rattle.api.proofs.Telling.{tells_as, tells_nothing, tells_refusal}
-use borrow.Author.Rules.{rules}
 use Rattle.api.proofs.tf_step.Goals as goal
 
 pub tell_instruction-requires : goal.tell_instruction-requires

@@ -1,7 +1,6 @@
 -- `api::tf_write` meets its contract: over 255 names nothing is written, else the given operand's writer does.
 -- Assumes nothing.
 use mathlib.Core.Path.{◌∙◌, ap}
-use borrow.Author.Rules.{rules}
 use Rattle.api.specs.Answers.{refused}
 use Rattle.api.proofs.Writes.{writes_many, writes_as}
 use Rattle.api.proofs.tf_write.Goals as goal

@@ -1,11 +1,10 @@
 -- `api::answers::of_effect` meets its contract: the bits of the difference, without signed numbers.
 -- Assumes nothing.
-use mathlib.Core.Path.{◌≡◌, ◌∙◌, sym, ap, subst}
+use mathlib.Core.Path.{◌∙◌, sym, ap, subst}
 use Rattle.op.specs.Effects.{net_of, Small}
 use Rattle.op.specs.declared.Effect.{Effect}
 use Rattle.api.specs.Answers.{net_answer}
 use Rattle.api.proofs.Bits.{net_bits}
-use borrow.Author.Rules.{rules}
 use Rattle.api.proofs.answers.of_effect.Goals as goal
 
 pub returns-in-By : goal.returns-in-By

@@ -3,7 +3,6 @@
 use mathlib.Core.Path.{◌≡◌}
 use Prim.Native.Nat.{ℕ, ◌+◌, ◌*◌}
 use Rattle.op.specs.Refusals.{half}
-use borrow.Author.Rules.{rules}
 use Rattle.api.proofs.answers.of_readback.Goals as goal
 
 -- the two halves of a refusal's answer, each as it is told

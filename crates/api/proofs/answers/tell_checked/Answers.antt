@@ -3,7 +3,6 @@
 use mathlib.Core.Path.{◌∙◌, sym, ap}
 use Rattle.checker.specs.declared.Checked.{Checked}
 use Rattle.api.specs.Checks.{check_answer, greatest_told}
-use borrow.Author.Rules.{rules}
 use Rattle.api.proofs.answers.tell_checked.Goals as goal
 
 pub returns-in-Refused : goal.returns-in-Refused

@@ -1,11 +1,10 @@
 -- `api::cells::copy_in` meets its contract: after i turns the first i numbers stand at the front.
 -- Assumes nothing.
-use mathlib.Core.Path.{◌≡◌, refl, ◌∙◌, ap}
-use mathlib.Core.List.{List, ◌++◌}
-use Prim.Native.Nat.{ℕ, ◌-◌, ◌≤◌}
+use mathlib.Core.Path.{refl, ◌∙◌, ap}
+use mathlib.Core.List.{List}
+use Prim.Native.Nat.{ℕ}
 use native.Mathlib.Omega.{arith}
-use lib.ListN.{length, take, drop, set, get_or, length-set}
-use borrow.Author.Rules.{rules}
+use lib.ListN.{set, get_or, length-set}
 use Rattle.api.proofs.Copying.{copied, whole}
 use Rattle.api.proofs.cells.copy_in.Goals as goal
 

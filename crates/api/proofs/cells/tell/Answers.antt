@@ -1,6 +1,5 @@
 -- `api::cells::tell` meets its contract: the laws of what is told, without and with room.
 -- Assumes nothing.
-use borrow.Author.Rules.{rules}
 use Rattle.api.proofs.Telling.{tells_full, tells_all}
 use Rattle.api.proofs.cells.tell.Goals as goal
 

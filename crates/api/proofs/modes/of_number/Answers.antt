@@ -2,7 +2,6 @@
 -- Assumes nothing.
 use mathlib.Core.Path.{◌≡◌, refl}
 use Prim.Native.Nat.{ℕ, zero, suc}
-use borrow.Author.Rules.{rules}
 use Rattle.strict.specs.declared.Mode.TheVariants.{Strict}
 use Rattle.api.specs.Checks.{mode_of}
 use Rattle.api.proofs.modes.of_number.Goals as goal

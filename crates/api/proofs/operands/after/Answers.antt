@@ -1,9 +1,8 @@
 -- `api::operands::after` meets its contract, case by case of what is given.
 -- Assumes nothing.
-use mathlib.Core.Path.{◌≡◌, ◌∙◌, sym, ap}
+use mathlib.Core.Path.{◌∙◌, sym, ap}
 use Rattle.op.specs.declared.After.TheVariants.{Refused}
 use Rattle.api.specs.Given.{after_given}
-use borrow.Author.Rules.{rules}
 use Rattle.api.proofs.operands.after.Goals as goal
 
 pub returns-in-Is : goal.returns-in-Is

@@ -1,9 +1,8 @@
 -- `api::operands::effect` meets its contract, case by case of what is given.
 -- Assumes nothing.
-use mathlib.Core.Path.{◌≡◌, ◌∙◌, sym, ap}
+use mathlib.Core.Path.{◌∙◌, sym, ap}
 use Rattle.op.specs.declared.Effect.TheVariants.{Refused}
 use Rattle.api.specs.Given.{effect_given}
-use borrow.Author.Rules.{rules}
 use Rattle.api.proofs.operands.effect.Goals as goal
 
 pub returns-in-Is : goal.returns-in-Is

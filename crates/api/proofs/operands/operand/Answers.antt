@@ -11,7 +11,6 @@ use Rattle.base.proofs.Keys.{at, past}
 use Rattle.api.specs.Given.{given_of}
 use Rattle.api.specs.declared.Given.TheVariants.{Is}
 use Rattle.api.proofs.Givens.{fits, wide, no_shape}
-use borrow.Author.Rules.{rules}
 use Rattle.api.proofs.operands.operand.Goals as goal
 
 pub returns-then-b-lt256 : goal.returns-then-b-lt256

@@ -1,7 +1,6 @@
 -- `api::pairs::entry` meets its contract: its tests are the definition's.
 -- Assumes nothing.
 use borrow.Author.Tests.{le-leb, lt-leb}
-use borrow.Author.Rules.{rules}
 use Rattle.api.proofs.pairs.entry.Goals as goal
 
 pub returns-then-depth-gt-WORD_MAX : goal.returns-then-depth-gt-WORD_MAX

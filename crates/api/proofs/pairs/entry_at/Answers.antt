@@ -1,7 +1,6 @@
 -- `api::pairs::entry_at` meets its contract: the six cells.
 -- Assumes nothing.
 use Rattle.api.specs.Pairs.{entry_at}
-use borrow.Author.Rules.{rules}
 use Rattle.api.proofs.pairs.entry_at.Goals as goal
 
 pub returns : goal.returns

@@ -7,7 +7,6 @@ use Rattle.code.specs.declared.Found.{Found}
 use Rattle.api.specs.Pairs.{both_told}
 use Rattle.api.specs.Tables.{handled_told}
 use Rattle.api.proofs.Telling.{tells_as, tells_refusal}
-use borrow.Author.Rules.{rules}
 use Rattle.api.proofs.pairs.find.Goals as goal
 
 pub returns-in_default : goal.returns-in_default

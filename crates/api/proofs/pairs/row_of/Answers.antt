@@ -1,6 +1,5 @@
 -- `api::pairs::row_of` meets its contract, field by field.
 -- Assumes nothing.
-use borrow.Author.Rules.{rules}
 use Rattle.api.proofs.pairs.row_of.Goals as goal
 
 pub returns : goal.returns

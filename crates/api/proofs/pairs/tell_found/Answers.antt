@@ -7,7 +7,6 @@ use Rattle.code.specs.declared.Handled.TheVariants.{Row}
 use Rattle.code.specs.declared.HandlerRow.{HandlerRow}
 use Rattle.api.specs.Tables.{handled_told}
 use Rattle.api.proofs.Telling.{tells_as, tells_nothing}
-use borrow.Author.Rules.{rules}
 use Rattle.api.proofs.pairs.tell_found.Goals as goal
 
 pub returns-in-Row : goal.returns-in-Row

@@ -10,7 +10,6 @@ use Rattle.text.specs.declared.Listed.TheVariants.{Part}
 use Rattle.api.specs.Listings.{part_told}
 use Rattle.api.specs.Told.{numbers, nothing}
 use Rattle.api.proofs.Telling.{tells_as, tells_nothing, tells_refusal}
-use borrow.Author.Rules.{rules}
 use Rattle.api.proofs.parts.tell_part.Goals as goal
 
 some : (n next : ℕ) (l : Listed) → l ≡ Part n next → 0 < n → numbers (n ∷ next ∷ []) ≡ part_told l

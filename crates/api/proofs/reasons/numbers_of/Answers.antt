@@ -2,7 +2,6 @@
 -- Assumes nothing.
 use mathlib.Core.Path.{sym, ap}
 use Rattle.api.specs.Checks.{reason_numbers}
-use borrow.Author.Rules.{rules}
 use Rattle.api.proofs.reasons.numbers_of.Goals as goal
 
 pub returns-in-TwoDepths : goal.returns-in-TwoDepths

@@ -4,13 +4,11 @@ use mathlib.Core.Path.{◌∙◌, ap}
 use mathlib.Core.List.{List}
 use Prim.Native.Nat.{ℕ}
 use Rattle.code.specs.Bytes.{front}
-use borrow.Author.Rules.{rules}
 use Rattle.api.proofs.reasons.tell_reason.Goals as goal
 
 pub returns : goal.returns
-returns c =
-    (
-      c.refused.ensures,
-      c.copy_in.ensures
-          ∙ ap (λ (g : List ℕ). front g c.args.out.now) c.numbers_of-given.ensures,
-    )
+returns c = (
+  c.refused.ensures,
+  c.copy_in.ensures
+      ∙ ap (λ (g : List ℕ). front g c.args.out.now) c.numbers_of-given.ensures,
+)

@@ -3,7 +3,6 @@
 use mathlib.Core.Path.{◌≡◌, refl}
 use mathlib.Core.List.{List}
 use Prim.Native.Nat.{ℕ}
-use borrow.Author.Rules.{rules}
 use Rattle.strict.specs.declared.Verdict.{Verdict}
 use Rattle.strict.specs.Promise.{answer_of}
 use Rattle.api.specs.Checks.{check_answer, greatest_told, reason_cells}

@@ -1,7 +1,6 @@
 -- `api::steps::of_written` meets its contract, case by case of the writer's answer.
 -- Assumes nothing.
 use mathlib.Core.Path.{◌∙◌, sym, ap}
-use borrow.Author.Rules.{rules}
 use Rattle.api.specs.Steps.{written_answer}
 use Rattle.api.proofs.steps.of_written.Goals as goal
 

@@ -2,7 +2,6 @@
 -- Assumes nothing.
 use Rattle.api.proofs.Telling.{tells_as}
 use Rattle.api.proofs.Stepping.{instruction_by}
-use borrow.Author.Rules.{rules}
 use Rattle.api.proofs.steps.tell_instruction.Goals as goal
 
 pub returns : goal.returns

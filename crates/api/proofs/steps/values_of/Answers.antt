@@ -4,7 +4,6 @@ use mathlib.Core.Path.{◌∙◌, sym, ap}
 use mir.Syntax.{w8, w16}
 use mir.Facts.{to_z-of_z}
 use Rattle.api.specs.Steps.{values_of}
-use borrow.Author.Rules.{rules}
 use Rattle.api.proofs.steps.values_of.Goals as goal
 
 pub returns-in-None : goal.returns-in-None

@@ -1,7 +1,6 @@
 -- `api::steps::write` meets its contract: the writer's, or why there is no operand.
 -- Assumes nothing.
 use mathlib.Core.Path.{◌∙◌, refl, sym, ap}
-use borrow.Author.Rules.{rules}
 use Rattle.api.specs.Answers.{refused}
 use Rattle.api.specs.Steps.{written_answer}
 use Rattle.api.specs.declared.Given.TheVariants as G
