@@ -5,7 +5,7 @@
 //! A program owes no promise: only crates with src/lib.rt are looked at. A `pub fn` of a module that lib.rt
 //! declares by plain `mod` is reached by no other crate and counts as private, unless a `pub use` of lib.rt
 //! hands it on. A `pub fn` of an `impl` block is reached by its type, wherever the block stands: it counts where lib.rt has
-//! the type as `pub`. An exported function is always public.
+//! the type as `pub`. An exported function is always public, and has to have the promise of a library's function of its name.
 
 use std::{
     env, fs,
@@ -36,6 +36,10 @@ struct Counts {
     private: usize,
     /// A line of the list for each public function, and its name.
     lines: Vec<(String, String)>,
+    /// Each exported function's name and promise.
+    exports: Vec<(String, String)>,
+    /// The same of each function of a library's lib.rt.
+    libraries: Vec<(String, String)>,
 }
 
 #[derive(Debug)]
@@ -72,6 +76,8 @@ fn main() -> ExitCode {
         demanding,
         private,
         lines,
+        exports,
+        libraries,
     } = counts;
     println!(
         "promises: {public} public functions: {promised} with a promise and no requires, {bare} with no promise, \
@@ -81,7 +87,12 @@ fn main() -> ExitCode {
         println!("promises: found no public function, so nothing was looked at");
     }
     let listed = listed(&lines, task == Task::Write);
-    if public > 0 && promised == public && listed {
+    // By their text: that an export keeps its promise is the prover's to see, this is that it is no other than the library's.
+    let weaker: Vec<&(String, String)> = exports.iter().filter(|export| !libraries.contains(export)).collect();
+    weaker.iter().for_each(|(name, _)| {
+        println!("promises: {name} is exported with another promise than a library's {name} has")
+    });
+    if public > 0 && promised == public && listed && weaker.is_empty() {
         ExitCode::SUCCESS
     } else {
         ExitCode::FAILURE
@@ -129,6 +140,12 @@ fn look_at_crate(source_folder: &Path, list_all: bool, counts: &mut Counts) {
                 || hands_on(&root_text, &module, function.name)
                 || function.owner.is_some_and(|owner| declares_type(&root_text, owner));
             count(&path, &function, reached, list_all, counts);
+            let promise = (function.name.to_owned(), promise_of(&function));
+            if function.exported {
+                counts.exports.push(promise);
+            } else if function.public && path == root {
+                counts.libraries.push(promise);
+            }
             if function.exported || (function.public && reached) {
                 counts.lines.push((function.name.to_owned(), line_of(source_folder, &path, &function)));
             }
@@ -145,8 +162,13 @@ fn line_of(source_folder: &Path, path: &Path, function: &Function<'_>) -> String
     } else if path.file_stem().is_some_and(|stem| stem != "lib") {
         place = format!("{place}::{}", module_of(source_folder, path));
     }
+    format!("| `{place}::{}` | `{}` |\n", function.name, promise_of(function))
+}
+
+/// What a function promises, as the list has it.
+fn promise_of(function: &Function<'_>) -> String {
     let promises: Vec<String> = function.ensures.iter().map(|clause| said(clause)).collect();
-    format!("| `{place}::{}` | `{}` |\n", function.name, promises.join("`; `"))
+    promises.join("`; `")
 }
 
 /// What a clause says: what stands between its braces. A name before them is left out.
