@@ -1,6 +1,6 @@
 // Texts in parts, and texts that are the same.
 ghost use Rattle.std.specs.Prelude.{◌≡◌};
-ghost use Rattle.text.specs.Reading.{same as sameText};
+ghost use Rattle.text.specs.Reading.{same as same_text};
 ghost use Rattle.text.specs.Row.{dash};
 ghost use Rattle.readback.specs.Inner.{cut_at};
 
@@ -20,7 +20,7 @@ pub fn cut(t: &[u8], b: u8) -> usize
 
 // Whether two texts are the same.
 pub fn same(s: &[u8], t: &[u8]) -> bool
-    ensures { result ≡ sameText s.now t.now }
+    ensures { result ≡ same_text s.now t.now }
 {
     if s.len() != t.len() {
         return false;
@@ -37,7 +37,7 @@ pub fn same(s: &[u8], t: &[u8]) -> bool
 
 // Whether a field is `-`.
 pub fn is_dash(t: &[u8]) -> bool
-    ensures { result ≡ sameText t.now dash }
+    ensures { result ≡ same_text t.now dash }
 {
     if t.len() != 1 {
         return false;

@@ -3,7 +3,7 @@
 
 ghost use Rattle.std.specs.Prelude.{◌≡◌, min, length, take};
 ghost use Rattle.text.specs.Listing.{header};
-ghost use Rattle.text.specs.Reading.{same as sameText};
+ghost use Rattle.text.specs.Reading.{same as same_text};
 ghost use Rattle.readback.specs.Lined.{stored_in};
 ghost use Rattle.readback.specs.Promise.{Reads};
 
@@ -53,7 +53,7 @@ fn least(a: usize, b: usize) -> usize
 
 // Whether a text begins with a listing's header.
 fn headed(text: &[u8]) -> bool
-    ensures { result ≡ sameText (take (length header) text.now) header }
+    ensures { result ≡ same_text (take (length header) text.now) header }
 {
     if text.len() < 28 {
         return false;

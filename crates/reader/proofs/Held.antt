@@ -1,7 +1,7 @@
 -- What a walk by hand uses of an `InstructionReader`, at a lifetime κ.
 --     B, D, L, val, αᵉ   the struct's type as a signature has it, its declaration and laws, a value's machine value, and the lifetime that a local of a body has
 --     Own, Rd            what a slice owns, and what a reader owns
---     again-had          what a reader owns is had twice;   slice_of   and of one the slice is taken;   at_held   a reader is of the type that a local of a body has
+--     again_had          what a reader owns is had twice;   slice_of   and of one the slice is taken;   at_held   a reader is of the type that a local of a body has
 -- Assumes `Logic`.
 use mathlib.Core.Path.{◌≡◌}
 use Prim.Native.Nat.{ℕ}

@@ -2,7 +2,7 @@
 ghost use Rattle.std.specs.Prelude.{◌≡◌, List, [], ◌∷◌, ◌++◌, ◌≤◌, length, drop};
 ghost use Rattle.text.specs.Fields.{line_text, Lean};
 ghost use Rattle.text.specs.Listing.{fault_line, first_line};
-ghost use Rattle.text.specs.Listing.{header as headerText};
+ghost use Rattle.text.specs.Listing.{header as header_text};
 ghost use Rattle.text.specs.Put.{Places};
 
 use crate::{Placed, put, row, write};
@@ -16,7 +16,7 @@ const LONGEST: usize = 1600;
 
 // The header.
 fn header(out: &mut [u8], to: usize) -> Placed
-    ensures { Places out.old to headerText result out.new }
+    ensures { Places out.old to header_text result out.new }
 {
     put::bytes(b"offset\tname\toperands\ttarget\n", out, to)
 }

@@ -1,7 +1,7 @@
 // Texts put into a lent slice at a place: the place behind is answered, or 18 with no cell changed.
 ghost use Rattle.std.specs.Prelude.{◌≡◌, ◌-◌};
 ghost use Rattle.text.specs.Decimal.{whole_text, sign_text};
-ghost use Rattle.text.specs.Decimal.{decimal as decimalOf};
+ghost use Rattle.text.specs.Decimal.{decimal as decimal_of};
 ghost use Rattle.text.specs.Put.{Places};
 
 use crate::{Placed, write};
@@ -35,7 +35,7 @@ fn number(below: bool, n: u64, out: &mut [u8], at: usize) -> Placed
 
 // A number in decimal.
 pub fn decimal(n: u64, out: &mut [u8], at: usize) -> Placed
-    ensures { Places out.old at (decimalOf n) result out.new }
+    ensures { Places out.old at (decimal_of n) result out.new }
 {
     number(false, n, out, at)
 }

@@ -1,7 +1,7 @@
 // Writers whose callers have made room. Each answers the place behind what it wrote.
 ghost use Rattle.std.specs.Prelude.{◌≡◌, List, [], ◌∷◌, ◌+◌, ◌-◌, ◌≤◌, ◌<◌, nat_abs, length};
 ghost use Rattle.text.specs.Decimal.{whole_text, sign_text};
-ghost use Rattle.text.specs.Decimal.{decimal as decimalOf};
+ghost use Rattle.text.specs.Decimal.{decimal as decimal_of};
 ghost use Rattle.text.specs.Put.{Put};
 
 // One byte.
@@ -30,8 +30,8 @@ pub fn copy(src: &[u8], out: &mut [u8], at: usize) -> usize
 
 // A number in decimal.
 pub fn decimal(n: u64, out: &mut [u8], at: usize) -> usize
-    requires { length (decimalOf n) ≤ length out.old - at }
-    ensures { Put out.old at (decimalOf n) result out.new }
+    requires { length (decimal_of n) ≤ length out.old - at }
+    ensures { Put out.old at (decimal_of n) result out.new }
 {
     if n < 10 {
         return byte(48 + n as u8, out, at);

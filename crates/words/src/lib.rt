@@ -5,7 +5,7 @@
 ghost use Rattle.std.specs.Prelude.{◌+◌, ◌-◌, ◌*◌, leb, ◌≡◌};
 ghost use Rattle.base.specs.Tests.{all};
 ghost use Rattle.text.specs.Number.{value};
-ghost use Rattle.text.specs.Number.{digit as digitByte, natural as naturalText};
+ghost use Rattle.text.specs.Number.{digit as digit_byte, natural as natural_text};
 ghost use Rattle.text.specs.Reading.{read_whole};
 ghost use Rattle.words.specs.Numbers.{fitted, number_of, plus_of, minus_of, whole_of};
 
@@ -73,7 +73,7 @@ fn said(t: &[u8]) -> Number
 }
 
 fn is_digit(c: u8) -> bool
-    ensures { result ≡ digitByte c }
+    ensures { result ≡ digit_byte c }
 {
     if c < 48 {
         return false;
@@ -82,7 +82,7 @@ fn is_digit(c: u8) -> bool
 }
 
 fn all_digits(t: &[u8]) -> bool
-    ensures { result ≡ all digitByte t.now }
+    ensures { result ≡ all digit_byte t.now }
 {
     let mut i: usize = 0;
     while i < t.len() {
@@ -95,7 +95,7 @@ fn all_digits(t: &[u8]) -> bool
 }
 
 fn is_natural(t: &[u8]) -> bool
-    ensures { result ≡ naturalText t.now }
+    ensures { result ≡ natural_text t.now }
 {
     if t.len() == 0 {
         return false;
