@@ -1,5 +1,8 @@
 -- Laws of `shape_of` and `effect_of`: what a known shape says of the effect; and of the effect without its operand.
 -- Assumes nothing.
+use Rattle.op.specs.Effects.{by}
+use Rattle.op.specs.declared.Effect.{Effect}
+use Rattle.std.specs.Prelude.{Ok, Err, Some, None, Result, Option}
 use mathlib.Core.Path.{◌≡◌, refl, ◌∙◌, sym, ap, subst}
 use mathlib.Core.Bool.{Bool, true, false, cond}
 use Prim.Native.Nat.{ℕ, ◌-◌, ◌≤◌, ◌<◌}
@@ -13,24 +16,19 @@ use Rattle.op.specs.Opcodes.{last_opcode, known, row_of}
 use Rattle.op.specs.Shapes.{shape_number, shape_in, shape_of, operand_shape, shape_no}
 use Rattle.op.specs.Effects.{rule_in, effect_by, effect_of, effect_from, fixed_by, fixed_of, former_of, last_of}
 use Rattle.op.specs.Inner.{rule_number, rule_no, rule_at}
-use Rattle.op.specs.declared.Effect.{Effect}
-use Rattle.op.specs.declared.Effect.TheVariants as E
-use Rattle.op.specs.declared.Fixed.{Fixed}
-use Rattle.op.specs.declared.Fixed.TheVariants as F
 use Rattle.op.specs.declared.Operand.{Operand}
 use Rattle.op.specs.declared.Refusal.{Refusal}
 use Rattle.op.specs.declared.Refusal.TheVariants.{UnknownOpcode, WrongShape}
 use Rattle.op.specs.declared.Shape.{Shape}
 use Rattle.op.specs.declared.Shape.TheVariants as S
-use Rattle.op.specs.declared.Shaped.TheVariants.{Is, Refused}
 use Rattle.op.proofs.Rules.{rule_at_lem}
 
 -- an opcode that has a shape is known, and the shape is its row's
-pub shape_is : (k : ℕ) (s : Shape) → shape_of k ≡ Is s → (known k ≡ true) × (shape_in (row_of k) ≡ s)
+pub shape_is : (k : ℕ) (s : Shape) → shape_of k ≡ Ok s → (known k ≡ true) × (shape_in (row_of k) ≡ s)
 unfolding shape_of
 shape_is k s e = go (known k) refl e
   where
-    go : (b : Bool) → known k ≡ b → cond b (Is (shape_in (row_of k))) (Refused UnknownOpcode) ≡ Is s
+    go : (b : Bool) → known k ≡ b → cond b (Ok (shape_in (row_of k))) (Err UnknownOpcode) ≡ Ok s
         → (known k ≡ true) × (shape_in (row_of k) ≡ s)
     go true q e = (q, cc)
     go false q e = clash cc
@@ -60,23 +58,23 @@ module _ (k n : ℕ) (is : n ≡ shape_no k) where
       go true q h = absurd (omega (arith, number_small (shape_in (row_of k))))
       go false q h = q
 
-  pub has_shape : (n ≡ 12 → ⊥) → (shape_of k ≡ Is (shape_in (row_of k))) × (n ≡ shape_number (shape_in (row_of k)))
+  pub has_shape : (n ≡ 12 → ⊥) → (shape_of k ≡ Ok (shape_in (row_of k))) × (n ≡ shape_number (shape_in (row_of k)))
   unfolding shape_no shape_of
   has_shape d = go (known k) refl is
     where
       go : (b : Bool) → known k ≡ b → n ≡ cond b (shape_number (shape_in (row_of k))) 12
-          → (cond b (Is (shape_in (row_of k))) (Refused UnknownOpcode) ≡ Is (shape_in (row_of k)))
+          → (cond b (Ok (shape_in (row_of k))) (Err UnknownOpcode) ≡ Ok (shape_in (row_of k)))
           × (n ≡ shape_number (shape_in (row_of k)))
       go true q h = (refl, h)
       go false q h = absurd (d h)
 
-pub effect_unknown : (k : ℕ) (o : Operand) → known k ≡ false → E.Refused UnknownOpcode ≡ effect_of k o
+pub effect_unknown : (k : ℕ) (o : Operand) → known k ≡ false → Err UnknownOpcode ≡ effect_of k o
 unfolding effect_of
 effect_unknown k o e = simp e
 
-module _ (k : ℕ) (o : Operand) (s : Shape) (is : shape_of k ≡ Is s) where
+module _ (k : ℕ) (o : Operand) (s : Shape) (is : shape_of k ≡ Ok s) where
   -- the operand has another shape
-  pub effect_other : (shape_number s ≡ shape_number (operand_shape o) → ⊥) → E.Refused WrongShape ≡ effect_of k o
+  pub effect_other : (shape_number s ≡ shape_number (operand_shape o) → ⊥) → Err WrongShape ≡ effect_of k o
   unfolding effect_of
   effect_other n =
       let q = shape_is k s is in
@@ -108,7 +106,7 @@ unfolding known
 known_below {k} l = le-leb k last_opcode l
 
 -- the first six rules stand in the order of their effects, the others go by their operand
-by_difference : (r : Rule) → rule_number r ≤ 5 → F.By (rule_number r - 3) (3 - rule_number r) ≡ fixed_by r
+by_difference : (r : Rule) → rule_number r ≤ 5 → Ok (Some (by (rule_number r - 3) (3 - rule_number r))) ≡ fixed_by r
 unfolding fixed_by
 by_difference minus3 h = refl
 by_difference minus2 h = refl
@@ -129,7 +127,7 @@ by_difference assert h = absurd (omega arith)
 by_difference assert_failed h = absurd (omega arith)
 by_difference match_keys h = absurd (omega arith)
 
-by_operand : (r : Rule) → 5 < rule_number r → F.ByOperand ≡ fixed_by r
+by_operand : (r : Rule) → 5 < rule_number r → Ok None ≡ fixed_by r
 unfolding fixed_by
 by_operand minus3 h = absurd (omega arith)
 by_operand minus2 h = absurd (omega arith)
@@ -151,21 +149,21 @@ by_operand assert_failed h = refl
 by_operand match_keys h = refl
 
 module _ (k : ℕ) where
-  pub fixed_unknown : known k ≡ false → F.Refused UnknownOpcode ≡ fixed_of k
+  pub fixed_unknown : known k ≡ false → Err UnknownOpcode ≡ fixed_of k
   unfolding fixed_of
   fixed_unknown e = simp e
 
-  pub from_unknown : (m n : ℕ) → known k ≡ false → E.Refused UnknownOpcode ≡ effect_from k m n
+  pub from_unknown : (m n : ℕ) → known k ≡ false → Err UnknownOpcode ≡ effect_from k m n
   unfolding effect_from
   from_unknown m n e = simp e
 
   -- the number e, answered for the rule of opcode k
   module _ (is : known k ≡ true) (e : ℕ) (p : e ≡ rule_no k) where
-    pub fixed_first : (up down : ℕ) → e ≤ 5 → up ≡ e - 3 → down ≡ 3 - e → F.By up down ≡ fixed_of k
+    pub fixed_first : (up down : ℕ) → e ≤ 5 → up ≡ e - 3 → down ≡ 3 - e → Ok (Some (by up down)) ≡ fixed_of k
     unfolding fixed_of rule_no
     fixed_first up down h eu ed = simp is (rw (eu, ed, p) (by_difference (rule_in (row_of k)) (omega (arith, p))))
 
-    pub fixed_rest : 5 < e → F.ByOperand ≡ fixed_of k
+    pub fixed_rest : 5 < e → Ok None ≡ fixed_of k
     unfolding fixed_of rule_no
     fixed_rest h = simp is (by_operand (rule_in (row_of k)) (omega (arith, p)))
 
@@ -174,10 +172,10 @@ module _ (k : ℕ) where
     from_rule m n = simp is (rw (p, rule_at_lem (rule_in (row_of k))))
 
 -- an effect is what an opcode does whatever its operand, or the opcode goes by its operand
-abbrev Agrees : Fixed → Effect → Type 0
-Agrees (F.By u d) e = e ≡ E.By u d
-Agrees F.ByOperand e = Unit {0}
-Agrees (F.Refused r) e = e ≡ E.Refused r
+abbrev Agrees : Result (Option Effect) Refusal → Result Effect Refusal → Type 0
+Agrees (Ok (Some effect)) e = e ≡ Ok (by effect.up effect.down)
+Agrees (Ok None) e = Unit {0}
+Agrees (Err r) e = e ≡ Err r
 
 rule_agrees : (r : Rule) (m n : ℕ) → Agrees (fixed_by r) (effect_by r m n)
 unfolding fixed_by effect_by
@@ -204,20 +202,20 @@ agrees : (k m n : ℕ) → Agrees (fixed_of k) (effect_from k m n)
 unfolding fixed_of effect_from
 agrees k m n = go (known k)
   where
-    go : (b : Bool) → Agrees (cond b (fixed_by (rule_in (row_of k))) (F.Refused UnknownOpcode))
-        (cond b (effect_by (rule_in (row_of k)) m n) (E.Refused UnknownOpcode))
+    go : (b : Bool) → Agrees (cond b (fixed_by (rule_in (row_of k))) (Err UnknownOpcode))
+        (cond b (effect_by (rule_in (row_of k)) m n) (Err UnknownOpcode))
     go true = rule_agrees (rule_in (row_of k)) m n
     go false = refl
 
 -- a fixed effect is the effect with any numbers, and so is a refusal
-pub fixed_effect : (k u d m n : ℕ) → fixed_of k ≡ F.By u d → effect_from k m n ≡ E.By u d
-fixed_effect k u d m n e = subst (λ (f : Fixed). Agrees f (effect_from k m n)) e (agrees k m n)
+pub fixed_effect : (k u d m n : ℕ) → fixed_of k ≡ Ok (Some (by u d)) → effect_from k m n ≡ Ok (by u d)
+fixed_effect k u d m n e = subst (λ (f : Result (Option Effect) Refusal). Agrees f (effect_from k m n)) e (agrees k m n)
 
-pub fixed_refused : (k : ℕ) (r : Refusal) (m n : ℕ) → fixed_of k ≡ F.Refused r → effect_from k m n ≡ E.Refused r
-fixed_refused k r m n e = subst (λ (f : Fixed). Agrees f (effect_from k m n)) e (agrees k m n)
+pub fixed_refused : (k : ℕ) (r : Refusal) (m n : ℕ) → fixed_of k ≡ Err r → effect_from k m n ≡ Err r
+fixed_refused k r m n e = subst (λ (f : Result (Option Effect) Refusal). Agrees f (effect_from k m n)) e (agrees k m n)
 
 -- the effect of an opcode with an operand of its shape is that of the operand's two numbers
-pub effect_from_lem : (k : ℕ) (o : Operand) (s : Shape) → shape_of k ≡ Is s → shape_number s ≡ shape_number (operand_shape o)
+pub effect_from_lem : (k : ℕ) (o : Operand) (s : Shape) → shape_of k ≡ Ok s → shape_number s ≡ shape_number (operand_shape o)
     → effect_of k o ≡ effect_from k (former_of o) (last_of o)
 unfolding effect_from
 effect_from_lem k o s is e = simp (shape_is k s is).0 (sym (effect_fits k o s is e))

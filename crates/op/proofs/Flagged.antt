@@ -1,35 +1,33 @@
 -- Laws of the assert flags.
 -- Assumes nothing.
+use Rattle.op.specs.declared.CmpOperator.{CmpOperator}
+use Rattle.std.specs.Prelude.{Some, None, Option}
 use mathlib.Core.Path.{◌≡◌, refl}
 use mathlib.Core.Bool.{Bool, true, false}
 use lib.Dec.{T}
 use Rattle.op.specs.Flags.{decoded_flags, flags_of}
-use Rattle.op.specs.declared.AssertFlags.{AssertFlags}
-use Rattle.op.specs.declared.AssertFlags.TheVariants.{Valid, Invalid}
 use Rattle.op.specs.declared.CmpOperator.TheVariants.{Eq, NotEq, Lt, LtE, Gt, GtE, Is, IsNot, In, NotIn}
-use Rattle.op.specs.declared.Compared.{Compared}
-use Rattle.op.specs.declared.Compared.TheVariants.{Nothing, With}
 
 -- whether a decoded byte is invalid
-abbrev pub is_invalid : AssertFlags → Bool
-is_invalid (Valid compared) = false
-is_invalid Invalid = true
+abbrev pub is_invalid : Option (Option CmpOperator) → Bool
+is_invalid (Some compared) = false
+is_invalid None = true
 
-pub invalid : (f : AssertFlags) → T (is_invalid f) → Invalid ≡ f
-invalid (Valid compared) t = absurd t
-invalid Invalid t = refl
+pub invalid : (f : Option (Option CmpOperator)) → T (is_invalid f) → None ≡ f
+invalid (Some compared) t = absurd t
+invalid None t = refl
 
 -- what is encoded is decoded again
-pub flags_back : (x : Compared) → decoded_flags (flags_of x) ≡ Valid x
+pub flags_back : (x : Option CmpOperator) → decoded_flags (flags_of x) ≡ Some x
 unfolding decoded_flags
-flags_back Nothing = refl
-flags_back (With Eq) = refl
-flags_back (With NotEq) = refl
-flags_back (With Lt) = refl
-flags_back (With LtE) = refl
-flags_back (With Gt) = refl
-flags_back (With GtE) = refl
-flags_back (With Is) = refl
-flags_back (With IsNot) = refl
-flags_back (With In) = refl
-flags_back (With NotIn) = refl
+flags_back None = refl
+flags_back (Some Eq) = refl
+flags_back (Some NotEq) = refl
+flags_back (Some Lt) = refl
+flags_back (Some LtE) = refl
+flags_back (Some Gt) = refl
+flags_back (Some GtE) = refl
+flags_back (Some Is) = refl
+flags_back (Some IsNot) = refl
+flags_back (Some In) = refl
+flags_back (Some NotIn) = refl

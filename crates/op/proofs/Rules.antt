@@ -1,5 +1,7 @@
 -- Laws of the rules of effects.
 -- Assumes nothing.
+use Rattle.op.specs.Effects.{by}
+use Rattle.std.specs.Prelude.{Ok, Err}
 use mathlib.Core.Path.{◌≡◌, refl}
 use mathlib.Core.List.{[], ◌∷◌}
 use Prim.Native.Nat.{ℕ, ◌+◌, ◌≤◌, ◌<◌}
@@ -12,7 +14,6 @@ use Rattle.op.specs.Opcodes.{Rule, minus3, minus2, minus1, same, plus1, plus2, m
 use Rattle.op.specs.Opcodes.{known, Jump, JumpIfTrue, JumpIfFalse, JumpIfTrueOrPop, JumpIfFalseOrPop, ForIter}
 use Rattle.op.specs.Effects.{effect_by, taken_of, Small}
 use Rattle.op.specs.Inner.{rules, rule_at, rule_number}
-use Rattle.op.specs.declared.Effect.TheVariants.{By, Refused}
 use Rattle.op.specs.declared.Refusal.TheVariants.{NotAJump}
 use Rattle.base.proofs.Keys.{Rest, up_to, past}
 
@@ -64,13 +65,13 @@ rule_small extended m n h l = (omega arith, omega arith)
 rule_small format m n h l = (omega arith, omega arith)
 rule_small assert m n h l = (omega arith, omega arith)
 rule_small assert_failed m n h l = (omega arith, omega arith)
-rule_small match_keys m n h l = either Small (eqb n 1) (By 0 1) (By 2 0) (omega arith, omega arith) (omega arith, omega arith)
+rule_small match_keys m n h l = either Small (eqb n 1) (Ok (by 0 1)) (Ok (by 2 0)) (omega arith, omega arith) (omega arith, omega arith)
 
 -- and so is a taken jump's
 pub taken_small : (k : ℕ) → Small (taken_of k)
 unfolding taken_of
 taken_small k =
     either Small (known k) _ _
-    (either Small (is_in k (Jump ∷ JumpIfTrueOrPop ∷ JumpIfFalseOrPop ∷ [])) (By 0 0) _ (omega arith, omega arith)
-    (either Small (is_in k (JumpIfTrue ∷ JumpIfFalse ∷ ForIter ∷ [])) (By 0 1) (Refused NotAJump) (omega arith, omega arith) tt))
+    (either Small (is_in k (Jump ∷ JumpIfTrueOrPop ∷ JumpIfFalseOrPop ∷ [])) (Ok (by 0 0)) _ (omega arith, omega arith)
+    (either Small (is_in k (JumpIfTrue ∷ JumpIfFalse ∷ ForIter ∷ [])) (Ok (by 0 1)) (Err NotAJump) (omega arith, omega arith) tt))
     tt

@@ -1,5 +1,7 @@
 -- A shape by its number, and the size by it.
 -- Assumes nothing.
+use Rattle.op.specs.declared.Refusal.{Refusal}
+use Rattle.std.specs.Prelude.{Ok, Err, Result}
 use mathlib.Core.Path.{◌≡◌, refl, sym, ap, ◌∙◌}
 use mathlib.Core.Bool.{Bool, true, false, cond, ◌||◌}
 use mathlib.Core.List.{List, [], ◌∷◌}
@@ -13,20 +15,18 @@ use Rattle.op.specs.Shapes.{shape_number, shape_in, shape_of, shape_no, size_of}
 use Rattle.op.specs.declared.Refusal.TheVariants.{UnknownOpcode}
 use Rattle.op.specs.declared.Shape.{Shape}
 use Rattle.op.specs.declared.Shape.TheVariants.{None, U8, I8, U16, Offset, U8U8, U16U8, U16U16, U16U8U8, CallKw, CallAttrKw, U16U16U8}
-use Rattle.op.specs.declared.Shaped.{Shaped}
-use Rattle.op.specs.declared.Shaped.TheVariants.{Is, Refused}
 
 -- the shapes in the order of their numbers
-abbrev shapes : List Shaped
+abbrev shapes : List (Result Shape Refusal)
 shapes =
-    Is None ∷ Is U8 ∷ Is I8 ∷ Is U16 ∷ Is Offset ∷ Is U8U8 ∷ Is U16U8 ∷ Is U16U16 ∷ Is U16U8U8 ∷ Is CallKw ∷ Is CallAttrKw ∷
-    Is U16U16U8 ∷ []
+    Ok None ∷ Ok U8 ∷ Ok I8 ∷ Ok U16 ∷ Ok Offset ∷ Ok U8U8 ∷ Ok U16U8 ∷ Ok U16U16 ∷ Ok U16U8U8 ∷ Ok CallKw ∷ Ok CallAttrKw ∷
+    Ok U16U16U8 ∷ []
 
 -- the shape of a number; past the twelve there is none
-abbrev pub shape_at : ℕ → Shaped
-shape_at n = get_or shapes n (Refused UnknownOpcode)
+abbrev pub shape_at : ℕ → Result Shape Refusal
+shape_at n = get_or shapes n (Err UnknownOpcode)
 
-shape_at_lem : (s : Shape) → shape_at (shape_number s) ≡ Is s
+shape_at_lem : (s : Shape) → shape_at (shape_number s) ≡ Ok s
 shape_at_lem None = refl
 shape_at_lem U8 = refl
 shape_at_lem I8 = refl
@@ -42,14 +42,14 @@ shape_at_lem U16U16U8 = refl
 
 -- a shape's number says which it is
 pub same_shape : (s t : Shape) → shape_number s ≡ shape_number t → s ≡ t
-same_shape s t e = let same : Is s ≡ Is t = sym (shape_at_lem s) ∙ ap shape_at e ∙ shape_at_lem t in cc
+same_shape s t e = let same : Ok s ≡ Ok t = sym (shape_at_lem s) ∙ ap shape_at e ∙ shape_at_lem t in cc
 
 -- an opcode's shape is that of its number
 pub by_number : (k : ℕ) → shape_at (shape_no k) ≡ shape_of k
 unfolding shape_no shape_of
 by_number k = go (known k)
   where
-    go : (b : Bool) → shape_at (cond b (shape_number (shape_in (row_of k))) 12) ≡ cond b (Is (shape_in (row_of k))) (Refused UnknownOpcode)
+    go : (b : Bool) → shape_at (cond b (shape_number (shape_in (row_of k))) 12) ≡ cond b (Ok (shape_in (row_of k))) (Err UnknownOpcode)
     go true = shape_at_lem (shape_in (row_of k))
     go false = refl
 
@@ -57,8 +57,8 @@ by_number k = go (known k)
 pub shape_arm : (k n m : ℕ) → n ≡ shape_no k → n ≡ m → shape_at m ≡ shape_of k
 shape_arm k n m e is = ap shape_at (sym is ∙ e) ∙ by_number k
 
-pub shape_none : (k n : ℕ) → n ≡ shape_no k → 12 ≤ n → Refused UnknownOpcode ≡ shape_of k
-shape_none k n e h = sym (get_or-eq_default shapes (Refused UnknownOpcode) {n = n} h) ∙ ap shape_at e ∙ by_number k
+pub shape_none : (k n : ℕ) → n ≡ shape_no k → 12 ≤ n → Err UnknownOpcode ≡ shape_of k
+shape_none k n e h = sym (get_or-eq_default shapes (Err UnknownOpcode) {n = n} h) ∙ ap shape_at e ∙ by_number k
 
 -- the size by a shape's number, without keyword names: half a byte of the row
 abbrev pub least_size : ℕ → ℕ

@@ -1,7 +1,9 @@
 -- What an instruction does to the depth of the stack: op.rs, `stack_effect`, `jump_taken_stack_effect`; R7 to R10.
 -- An effect is a number to add, `up`, and a number to take away, `down`; the net effect is `up` - `down`.
 -- Assumes nothing.
-use Rattle.std.specs.Prelude.{Bool, cond, [], ◌∷◌, ℕ, ◌+◌, ◌*◌, ◌/◌, ◌%◌, ◌<◌, eqb}
+use Rattle.op.specs.declared.Effect.{Effect}
+use Rattle.op.specs.declared.Refusal.{Refusal}
+use Rattle.std.specs.Prelude.{Bool, cond, [], ◌∷◌, ℕ, ◌+◌, ◌*◌, ◌/◌, ◌%◌, ◌<◌, eqb, Ok, Err, Some, None, Result, Option, true, false, ℤ}
 use Rattle.std.proofs.Math.IntN.{sub_ℕ}
 use Rattle.base.specs.Tests.{is_in}
 use Rattle.op.specs.Opcodes.{Rule, minus3, minus2, minus1, same, plus1, plus2, minus_n, one_minus_n, one_minus_2n, n_minus_one, both, minus_both, one_minus_both, extended, format, assert, assert_failed, match_keys}
@@ -9,17 +11,13 @@ use Rattle.op.specs.Opcodes.{Row, op, known, row_of}
 use Rattle.op.specs.Opcodes.{Jump, JumpIfTrue, JumpIfFalse, JumpIfTrueOrPop, JumpIfFalseOrPop, ForIter, Raise}
 use Rattle.op.specs.Opcodes.{Reraise, ReturnValue, RaiseUnboundLocal, AssertFailed}
 use Rattle.op.specs.Shapes.{shape_number, shape_in, operand_shape}
-use Rattle.op.specs.declared.Deadness.{Deadness}
-use Rattle.op.specs.declared.Deadness.TheVariants as D
-use Rattle.op.specs.declared.Effect.{Effect}
-use Rattle.op.specs.declared.Effect.TheVariants.{By, Refused}
-use Rattle.op.specs.declared.Fixed.{Fixed}
-use Rattle.op.specs.declared.Fixed.TheVariants as F
-use Rattle.op.specs.declared.NetEffect.{NetEffect}
-use Rattle.op.specs.declared.NetEffect.TheVariants as N
 use Rattle.op.specs.declared.Operand.{Operand}
 use Rattle.op.specs.declared.Operand.TheVariants as O
 use Rattle.op.specs.declared.Refusal.TheVariants.{UnknownOpcode, WrongShape, NotAJump}
+
+-- an effect of two numbers
+abbrev pub by : (up down : ℕ) → Effect
+by up down = record { up = up; down = down }
 
 -- a row's effect
 abbrev pub rule_in : Row → Rule
@@ -56,87 +54,87 @@ former_of (O.CallAttrKw attribute positional names) = positional
 former_of (O.U16U16U8 a b c) = 0
 
 -- R8, "The others go by their operand": a rule over an operand's former and last number
-unfoldable pub effect_by : Rule → ℕ → ℕ → Effect
-effect_by minus3 m n = By 0 3
-effect_by minus2 m n = By 0 2
-effect_by minus1 m n = By 0 1
-effect_by same m n = By 0 0
-effect_by plus1 m n = By 1 0
-effect_by plus2 m n = By 2 0
-effect_by minus_n m n = By 0 n
-effect_by one_minus_n m n = By 1 n
-effect_by one_minus_2n m n = By 1 (2 * n)
-effect_by n_minus_one m n = By n 1
-effect_by both m n = By (m + n) 0
-effect_by minus_both m n = By 0 (m + n)
-effect_by one_minus_both m n = By 1 (m + n)
-effect_by extended m n = By 0 (1 + n % 2)
-effect_by format m n = By 0 (n / 4 % 2)
-effect_by assert m n = By 0 (1 + n / 16 % 2)
-effect_by assert_failed m n = By 0 (2 + n / 16 % 2)
-effect_by match_keys m n = cond (eqb n 1) (By 0 1) (By 2 0)
+unfoldable pub effect_by : Rule → ℕ → ℕ → Result Effect Refusal
+effect_by minus3 m n = Ok (by 0 3)
+effect_by minus2 m n = Ok (by 0 2)
+effect_by minus1 m n = Ok (by 0 1)
+effect_by same m n = Ok (by 0 0)
+effect_by plus1 m n = Ok (by 1 0)
+effect_by plus2 m n = Ok (by 2 0)
+effect_by minus_n m n = Ok (by 0 n)
+effect_by one_minus_n m n = Ok (by 1 n)
+effect_by one_minus_2n m n = Ok (by 1 (2 * n))
+effect_by n_minus_one m n = Ok (by n 1)
+effect_by both m n = Ok (by (m + n) 0)
+effect_by minus_both m n = Ok (by 0 (m + n))
+effect_by one_minus_both m n = Ok (by 1 (m + n))
+effect_by extended m n = Ok (by 0 (1 + n % 2))
+effect_by format m n = Ok (by 0 (n / 4 % 2))
+effect_by assert m n = Ok (by 0 (1 + n / 16 % 2))
+effect_by assert_failed m n = Ok (by 0 (2 + n / 16 % 2))
+effect_by match_keys m n = cond (eqb n 1) (Ok (by 0 1)) (Ok (by 2 0))
 
 -- 1, then 2: the effect of an opcode with an operand (R7)
-unfoldable pub effect_of : ℕ → Operand → Effect
+unfoldable pub effect_of : ℕ → Operand → Result Effect Refusal
 effect_of k o =
     cond (known k)
     (cond (eqb (shape_number (shape_in (row_of k))) (shape_number (operand_shape o)))
     (effect_by (rule_in (row_of k)) (former_of o) (last_of o))
-    (Refused WrongShape))
-    (Refused UnknownOpcode)
+    (Err WrongShape))
+    (Err UnknownOpcode)
 
 -- 1, or the effect of an opcode by an operand's former and last number (R8)
-unfoldable pub effect_from : (k m n : ℕ) → Effect
-effect_from k m n = cond (known k) (effect_by (rule_in (row_of k)) m n) (Refused UnknownOpcode)
+unfoldable pub effect_from : (k m n : ℕ) → Result Effect Refusal
+effect_from k m n = cond (known k) (effect_by (rule_in (row_of k)) m n) (Err UnknownOpcode)
 
 -- R8, "The others go by their operand": what a rule's effect is without one
-unfoldable pub fixed_by : Rule → Fixed
-fixed_by minus3 = F.By 0 3
-fixed_by minus2 = F.By 0 2
-fixed_by minus1 = F.By 0 1
-fixed_by same = F.By 0 0
-fixed_by plus1 = F.By 1 0
-fixed_by plus2 = F.By 2 0
-fixed_by minus_n = F.ByOperand
-fixed_by one_minus_n = F.ByOperand
-fixed_by one_minus_2n = F.ByOperand
-fixed_by n_minus_one = F.ByOperand
-fixed_by both = F.ByOperand
-fixed_by minus_both = F.ByOperand
-fixed_by one_minus_both = F.ByOperand
-fixed_by extended = F.ByOperand
-fixed_by format = F.ByOperand
-fixed_by assert = F.ByOperand
-fixed_by assert_failed = F.ByOperand
-fixed_by match_keys = F.ByOperand
+unfoldable pub fixed_by : Rule → Result (Option Effect) Refusal
+fixed_by minus3 = Ok (Some (by 0 3))
+fixed_by minus2 = Ok (Some (by 0 2))
+fixed_by minus1 = Ok (Some (by 0 1))
+fixed_by same = Ok (Some (by 0 0))
+fixed_by plus1 = Ok (Some (by 1 0))
+fixed_by plus2 = Ok (Some (by 2 0))
+fixed_by minus_n = Ok None
+fixed_by one_minus_n = Ok None
+fixed_by one_minus_2n = Ok None
+fixed_by n_minus_one = Ok None
+fixed_by both = Ok None
+fixed_by minus_both = Ok None
+fixed_by one_minus_both = Ok None
+fixed_by extended = Ok None
+fixed_by format = Ok None
+fixed_by assert = Ok None
+fixed_by assert_failed = Ok None
+fixed_by match_keys = Ok None
 
 -- 1, or what an opcode does whatever its operand (R8)
-unfoldable pub fixed_of : (k : ℕ) → Fixed
-fixed_of k = cond (known k) (fixed_by (rule_in (row_of k))) (F.Refused UnknownOpcode)
+unfoldable pub fixed_of : (k : ℕ) → Result (Option Effect) Refusal
+fixed_of k = cond (known k) (fixed_by (rule_in (row_of k))) (Err UnknownOpcode)
 
 -- "A jump has two effects, falling through and taken": the taken effects, refusing 1, then 3 (R9)
-unfoldable pub taken_of : ℕ → Effect
+unfoldable pub taken_of : ℕ → Result Effect Refusal
 taken_of k =
     cond (known k)
-    (cond (is_in k (Jump ∷ JumpIfTrueOrPop ∷ JumpIfFalseOrPop ∷ [])) (By 0 0)
-    (cond (is_in k (JumpIfTrue ∷ JumpIfFalse ∷ ForIter ∷ [])) (By 0 1)
-    (Refused NotAJump)))
-    (Refused UnknownOpcode)
+    (cond (is_in k (Jump ∷ JumpIfTrueOrPop ∷ JumpIfFalseOrPop ∷ [])) (Ok (by 0 0))
+    (cond (is_in k (JumpIfTrue ∷ JumpIfFalse ∷ ForIter ∷ [])) (Ok (by 0 1))
+    (Err NotAJump)))
+    (Err UnknownOpcode)
 
 -- the two numbers of an effect fit the Rust's i32
-abbrev pub Small : Effect → Type 0
-Small (By up down) = (up < 2147483648) × (down < 2147483648)
-Small (Refused r) = Unit {0}
+abbrev pub Small : Result Effect Refusal → Type 0
+Small (Ok effect) = (effect.up < 2147483648) × (effect.down < 2147483648)
+Small (Err r) = Unit {0}
 
 -- an effect as the Rust's signed number (R8)
-abbrev pub net_of : Effect → NetEffect
-net_of (By up down) = N.Net (sub_ℕ up down)
-net_of (Refused r) = N.Refused r
+abbrev pub net_of : Result Effect Refusal → Result ℤ Refusal
+net_of (Ok effect) = Ok (sub_ℕ effect.up effect.down)
+net_of (Err r) = Err r
 
 -- "Six opcodes make the code behind them dead" (R10)
 unfoldable pub dead_maker : ℕ → Bool
 dead_maker k = is_in k (ReturnValue ∷ Raise ∷ Reraise ∷ RaiseUnboundLocal ∷ AssertFailed ∷ Jump ∷ [])
 
 -- what is behind an opcode, or 1
-abbrev pub deadness_of : ℕ → Deadness
-deadness_of k = cond (known k) (cond (dead_maker k) D.Dead D.Live) (D.Refused UnknownOpcode)
+abbrev pub deadness_of : ℕ → Result Bool Refusal
+deadness_of k = cond (known k) (cond (dead_maker k) (Ok true) (Ok false)) (Err UnknownOpcode)

@@ -1,12 +1,8 @@
 -- The flags of Assert and AssertFailed: R6; op.rs, `assert_flags`, `decode_assert_flags`; CmpOperator.
 -- Assumes nothing.
-use Rattle.std.specs.Prelude.{cond, List, [], ◌∷◌, ℕ, ◌+◌, ◌-◌, eqb, leb, get_or}
+use Rattle.std.specs.Prelude.{cond, List, [], ◌∷◌, ℕ, ◌+◌, ◌-◌, eqb, leb, get_or, Some, None, Option}
 use Rattle.op.specs.declared.CmpOperator.{CmpOperator}
 use Rattle.op.specs.declared.CmpOperator.TheVariants.{Eq, NotEq, Lt, LtE, Gt, GtE, Is, IsNot, In, NotIn}
-use Rattle.op.specs.declared.Compared.{Compared}
-use Rattle.op.specs.declared.Compared.TheVariants as C
-use Rattle.op.specs.declared.AssertFlags.{AssertFlags}
-use Rattle.op.specs.declared.AssertFlags.TheVariants as F
 
 -- expressions.rs, `enum CmpOperator`, `as_operand`: comparison 0 to 9
 abbrev pub comparison_number : CmpOperator → ℕ
@@ -22,18 +18,18 @@ comparison_number In = 8
 comparison_number NotIn = 9
 
 -- the comparisons in the order of their numbers, and what each decodes to
-abbrev pub comparisons : List AssertFlags
+abbrev pub comparisons : List (Option (Option CmpOperator))
 comparisons =
-    F.Valid (C.With Eq) ∷ F.Valid (C.With NotEq) ∷ F.Valid (C.With Lt) ∷ F.Valid (C.With LtE) ∷ F.Valid (C.With Gt) ∷
-    F.Valid (C.With GtE) ∷ F.Valid (C.With Is) ∷ F.Valid (C.With IsNot) ∷ F.Valid (C.With In) ∷ F.Valid (C.With NotIn)
+    Some (Some Eq) ∷ Some (Some NotEq) ∷ Some (Some Lt) ∷ Some (Some LtE) ∷ Some (Some Gt) ∷
+    Some (Some GtE) ∷ Some (Some Is) ∷ Some (Some IsNot) ∷ Some (Some In) ∷ Some (Some NotIn)
     ∷ []
 
 -- "0 means no comparison, 0x10 to 0x19 comparison 0 to 9" (R6)
-abbrev pub flags_of : Compared → ℕ
-flags_of C.Nothing = 0
-flags_of (C.With operator) = 0x10 + comparison_number operator
+abbrev pub flags_of : Option CmpOperator → ℕ
+flags_of None = 0
+flags_of (Some operator) = 0x10 + comparison_number operator
 
 -- the same, read: "every other byte is invalid" (R6)
-unfoldable pub decoded_flags : ℕ → AssertFlags
+unfoldable pub decoded_flags : ℕ → Option (Option CmpOperator)
 decoded_flags b =
-    cond (eqb b 0) (F.Valid C.Nothing) (cond (leb 0x10 b) (get_or comparisons (b - 0x10) F.Invalid) F.Invalid)
+    cond (eqb b 0) (Some None) (cond (leb 0x10 b) (get_or comparisons (b - 0x10) None) None)

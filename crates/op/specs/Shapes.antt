@@ -1,14 +1,13 @@
 -- The shapes of operands: op.rs, `OperandShape`, `operand_shape`, `Operand::shape`; R3, R4.
 -- Assumes nothing.
-use Rattle.std.specs.Prelude.{cond, ℕ, ◌+◌, ◌*◌}
+use Rattle.op.specs.declared.Refusal.{Refusal}
+use Rattle.std.specs.Prelude.{cond, ℕ, ◌+◌, ◌*◌, Ok, Err, Result}
 use Rattle.op.specs.Opcodes.{Row, op, known, row_of}
 use Rattle.op.specs.declared.Operand.{Operand}
 use Rattle.op.specs.declared.Operand.TheVariants as O
 use Rattle.op.specs.declared.Refusal.TheVariants.{UnknownOpcode}
 use Rattle.op.specs.declared.Shape.{Shape}
 use Rattle.op.specs.declared.Shape.TheVariants as S
-use Rattle.op.specs.declared.Shaped.{Shaped}
-use Rattle.op.specs.declared.Shaped.TheVariants.{Is, Refused}
 
 -- op.rs, `enum OperandShape`: the shapes' numbers (R3)
 abbrev pub shape_number : Shape → ℕ
@@ -30,8 +29,8 @@ abbrev pub shape_in : Row → Shape
 shape_in (op name shape rule) = shape
 
 -- op.rs, `operand_shape`: an opcode's shape, or 1 (R2)
-unfoldable pub shape_of : ℕ → Shaped
-shape_of k = cond (known k) (Is (shape_in (row_of k))) (Refused UnknownOpcode)
+unfoldable pub shape_of : ℕ → Result Shape Refusal
+shape_of k = cond (known k) (Ok (shape_in (row_of k))) (Err UnknownOpcode)
 
 -- op.rs, `Operand::shape`: the shape of an operand (R3)
 abbrev pub operand_shape : Operand → Shape

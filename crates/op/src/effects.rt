@@ -4,7 +4,7 @@ ghost use Rattle.op.specs.Effects.{effect_by, effect_of, taken_of, net_of, Small
 ghost use Rattle.op.specs.Effects.{former_of, fixed_of, effect_from};
 ghost use Rattle.op.specs.Inner.{rule_no, rule_at, rule_words, no_rules};
 
-use crate::{Deadness, Effect, Fixed, NetEffect, Operand, Refusal, opcodes, rows, shapes};
+use crate::{Effect, Operand, Refusal, opcodes, rows, shapes};
 
 // The rules of effects, by numbers of our own.
 const MINUS_3: u8 = 0;
@@ -77,45 +77,45 @@ fn rule_number(opcode: u8) -> u8
 }
 
 // A rule's effect, by the operand's former and last number.
-fn rule_effect(rule: u8, m: u32, n: u32) -> Effect
+fn rule_effect(rule: u8, m: u32, n: u32) -> Result<Effect, Refusal>
     requires { (m < 256) × (n < 65536) }
     ensures { result ≡ effect_by (rule_at rule) m n }
 {
     match rule {
-        MINUS_3 => Effect::By { up: 0, down: 3 },
-        MINUS_2 => Effect::By { up: 0, down: 2 },
-        MINUS_1 => Effect::By { up: 0, down: 1 },
-        SAME => Effect::By { up: 0, down: 0 },
-        PLUS_1 => Effect::By { up: 1, down: 0 },
-        PLUS_2 => Effect::By { up: 2, down: 0 },
-        MINUS_N => Effect::By { up: 0, down: n },
-        ONE_MINUS_N => Effect::By { up: 1, down: n },
-        ONE_MINUS_2N => Effect::By { up: 1, down: 2 * n },
-        N_MINUS_ONE => Effect::By { up: n, down: 1 },
-        BOTH => Effect::By { up: m + n, down: 0 },
-        MINUS_BOTH => Effect::By { up: 0, down: m + n },
-        ONE_MINUS_BOTH => Effect::By { up: 1, down: m + n },
-        EXTENDED => Effect::By {
+        MINUS_3 => Ok(Effect { up: 0, down: 3 }),
+        MINUS_2 => Ok(Effect { up: 0, down: 2 }),
+        MINUS_1 => Ok(Effect { up: 0, down: 1 }),
+        SAME => Ok(Effect { up: 0, down: 0 }),
+        PLUS_1 => Ok(Effect { up: 1, down: 0 }),
+        PLUS_2 => Ok(Effect { up: 2, down: 0 }),
+        MINUS_N => Ok(Effect { up: 0, down: n }),
+        ONE_MINUS_N => Ok(Effect { up: 1, down: n }),
+        ONE_MINUS_2N => Ok(Effect { up: 1, down: 2 * n }),
+        N_MINUS_ONE => Ok(Effect { up: n, down: 1 }),
+        BOTH => Ok(Effect { up: m + n, down: 0 }),
+        MINUS_BOTH => Ok(Effect { up: 0, down: m + n }),
+        ONE_MINUS_BOTH => Ok(Effect { up: 1, down: m + n }),
+        EXTENDED => Ok(Effect {
             up: 0,
             down: 1 + n % 2,
-        },
-        FORMAT => Effect::By {
+        }),
+        FORMAT => Ok(Effect {
             up: 0,
             down: n / 4 % 2,
-        },
-        ASSERT => Effect::By {
+        }),
+        ASSERT => Ok(Effect {
             up: 0,
             down: 1 + n / 16 % 2,
-        },
-        ASSERT_FAILED => Effect::By {
+        }),
+        ASSERT_FAILED => Ok(Effect {
             up: 0,
             down: 2 + n / 16 % 2,
-        },
+        }),
         _ => {
             if n == 1 {
-                Effect::By { up: 0, down: 1 }
+                Ok(Effect { up: 0, down: 1 })
             } else {
-                Effect::By { up: 2, down: 0 }
+                Ok(Effect { up: 2, down: 0 })
             }
         }
     }
@@ -176,15 +176,15 @@ fn former(operand: Operand) -> u32
 }
 
 // The effect of an instruction that falls through: refuses 1, then 2.
-pub fn effect(opcode: u8, operand: Operand) -> Effect
+pub fn effect(opcode: u8, operand: Operand) -> Result<Effect, Refusal>
     ensures { (result ≡ effect_of opcode operand) × Small result }
 {
     let shape = shapes::shape_number(opcode);
     if shape == shapes::NO_SHAPE {
-        return Effect::Refused(Refusal::UnknownOpcode);
+        return Err(Refusal::UnknownOpcode);
     }
     if shape != shapes::number(shapes::of_operand(operand)) {
-        return Effect::Refused(Refusal::WrongShape);
+        return Err(Refusal::WrongShape);
     }
     rule_effect(rule_number(opcode), former(operand), last(operand))
 }
@@ -201,70 +201,70 @@ fn over(a: u8, b: u8) -> u32
 
 // What an opcode does to the depth whatever its operand: refuses 1. The first six rules stand in the order of their
 // effects, so that those are differences: an arm for each would become a chain of tests.
-pub fn fixed(opcode: u8) -> Fixed
+pub fn fixed(opcode: u8) -> Result<Option<Effect>, Refusal>
     ensures { result ≡ fixed_of opcode }
 {
     if opcodes::LAST < opcode {
-        return Fixed::Refused(Refusal::UnknownOpcode);
+        return Err(Refusal::UnknownOpcode);
     }
     let rule = rule_number(opcode);
     if PLUS_2 < rule {
-        return Fixed::ByOperand;
+        return Ok(None);
     }
-    Fixed::By {
+    Ok(Some(Effect {
         up: over(rule, SAME),
         down: over(SAME, rule),
-    }
+    }))
 }
 
 // The effect of an opcode by its operand's former and last number, without the operand: refuses 1.
-pub fn by_numbers(opcode: u8, former: u8, last: u16) -> Effect
+pub fn by_numbers(opcode: u8, former: u8, last: u16) -> Result<Effect, Refusal>
     ensures { (result ≡ effect_from opcode former last) × Small result }
 {
     if opcodes::LAST < opcode {
-        return Effect::Refused(Refusal::UnknownOpcode);
+        return Err(Refusal::UnknownOpcode);
     }
     rule_effect(rule_number(opcode), former as u32, last as u32)
 }
 
 // The effect of a taken jump: refuses 1, then 3.
-pub fn taken_effect(opcode: u8) -> Effect
+pub fn taken_effect(opcode: u8) -> Result<Effect, Refusal>
     ensures { result ≡ taken_of opcode }
 {
     if opcodes::LAST < opcode {
-        return Effect::Refused(Refusal::UnknownOpcode);
+        return Err(Refusal::UnknownOpcode);
     }
     match opcode {
-        opcodes::JUMP => Effect::By { up: 0, down: 0 },
-        opcodes::JUMP_IF_TRUE => Effect::By { up: 0, down: 1 },
-        opcodes::JUMP_IF_FALSE => Effect::By { up: 0, down: 1 },
-        opcodes::JUMP_IF_TRUE_OR_POP => Effect::By { up: 0, down: 0 },
-        opcodes::JUMP_IF_FALSE_OR_POP => Effect::By { up: 0, down: 0 },
-        opcodes::FOR_ITER => Effect::By { up: 0, down: 1 },
-        _ => Effect::Refused(Refusal::NotAJump),
+        opcodes::JUMP => Ok(Effect { up: 0, down: 0 }),
+        opcodes::JUMP_IF_TRUE => Ok(Effect { up: 0, down: 1 }),
+        opcodes::JUMP_IF_FALSE => Ok(Effect { up: 0, down: 1 }),
+        opcodes::JUMP_IF_TRUE_OR_POP => Ok(Effect { up: 0, down: 0 }),
+        opcodes::JUMP_IF_FALSE_OR_POP => Ok(Effect { up: 0, down: 0 }),
+        opcodes::FOR_ITER => Ok(Effect { up: 0, down: 1 }),
+        _ => Err(Refusal::NotAJump),
     }
 }
 
 // An effect as one signed number.
-fn net(effect: Effect) -> NetEffect
+fn net(effect: Result<Effect, Refusal>) -> Result<i32, Refusal>
     requires { Small effect }
     ensures { result ≡ net_of effect }
 {
     match effect {
-        Effect::By { up, down } => NetEffect::Net(up as i32 - down as i32),
-        Effect::Refused(refusal) => NetEffect::Refused(refusal),
+        Ok(Effect { up, down }) => Ok(up as i32 - down as i32),
+        Err(refusal) => Err(refusal),
     }
 }
 
 // op.rs, `stack_effect`: refuses 1, then 2.
-pub fn stack_effect(opcode: u8, operand: Operand) -> NetEffect
+pub fn stack_effect(opcode: u8, operand: Operand) -> Result<i32, Refusal>
     ensures { result ≡ net_of (effect_of opcode operand) }
 {
     net(effect(opcode, operand))
 }
 
 // op.rs, `jump_taken_stack_effect`: refuses 1, then 3.
-pub fn jump_taken_stack_effect(opcode: u8) -> NetEffect
+pub fn jump_taken_stack_effect(opcode: u8) -> Result<i32, Refusal>
     ensures { result ≡ net_of (taken_of opcode) }
 {
     net(taken_effect(opcode))
@@ -286,14 +286,14 @@ pub fn is_dead_maker(opcode: u8) -> bool
 }
 
 // What the code behind an opcode is: refuses 1.
-pub fn makes_dead(opcode: u8) -> Deadness
+pub fn makes_dead(opcode: u8) -> Result<bool, Refusal>
     ensures { result ≡ deadness_of opcode }
 {
     if opcodes::LAST < opcode {
-        return Deadness::Refused(Refusal::UnknownOpcode);
+        return Err(Refusal::UnknownOpcode);
     }
     if is_dead_maker(opcode) {
-        return Deadness::Dead;
+        return Ok(true);
     }
-    Deadness::Live
+    Ok(false)
 }

@@ -2,7 +2,7 @@
 ghost use Rattle.std.specs.Prelude.{◌≡◌, ◌<◌};
 ghost use Rattle.op.specs.Flags.{comparison_number, flags_of, decoded_flags};
 
-use crate::{AssertFlags, CmpOperator, Compared};
+use crate::CmpOperator;
 
 // The number of a comparison, 0 to 9.
 pub fn as_operand(operator: CmpOperator) -> u8
@@ -23,31 +23,31 @@ pub fn as_operand(operator: CmpOperator) -> u8
 }
 
 // The flags byte of an assert that compares so.
-pub fn assert_flags(compared: Compared) -> u8
+pub fn assert_flags(compared: Option<CmpOperator>) -> u8
     ensures { result ≡ flags_of compared }
 {
     match compared {
-        Compared::Nothing => 0,
-        Compared::With(operator) => 0x10 + as_operand(operator),
+        None => 0,
+        Some(operator) => 0x10 + as_operand(operator),
     }
 }
 
 // What a flags byte means.
-pub fn decode_assert_flags(flags: u8) -> AssertFlags
+pub fn decode_assert_flags(flags: u8) -> Option<Option<CmpOperator>>
     ensures { result ≡ decoded_flags flags }
 {
     match flags {
-        0 => AssertFlags::Valid(Compared::Nothing),
-        0x10 => AssertFlags::Valid(Compared::With(CmpOperator::Eq)),
-        0x11 => AssertFlags::Valid(Compared::With(CmpOperator::NotEq)),
-        0x12 => AssertFlags::Valid(Compared::With(CmpOperator::Lt)),
-        0x13 => AssertFlags::Valid(Compared::With(CmpOperator::LtE)),
-        0x14 => AssertFlags::Valid(Compared::With(CmpOperator::Gt)),
-        0x15 => AssertFlags::Valid(Compared::With(CmpOperator::GtE)),
-        0x16 => AssertFlags::Valid(Compared::With(CmpOperator::Is)),
-        0x17 => AssertFlags::Valid(Compared::With(CmpOperator::IsNot)),
-        0x18 => AssertFlags::Valid(Compared::With(CmpOperator::In)),
-        0x19 => AssertFlags::Valid(Compared::With(CmpOperator::NotIn)),
-        _ => AssertFlags::Invalid,
+        0 => Some(None),
+        0x10 => Some(Some(CmpOperator::Eq)),
+        0x11 => Some(Some(CmpOperator::NotEq)),
+        0x12 => Some(Some(CmpOperator::Lt)),
+        0x13 => Some(Some(CmpOperator::LtE)),
+        0x14 => Some(Some(CmpOperator::Gt)),
+        0x15 => Some(Some(CmpOperator::GtE)),
+        0x16 => Some(Some(CmpOperator::Is)),
+        0x17 => Some(Some(CmpOperator::IsNot)),
+        0x18 => Some(Some(CmpOperator::In)),
+        0x19 => Some(Some(CmpOperator::NotIn)),
+        _ => None,
     }
 }

@@ -104,13 +104,6 @@ pub enum Shape {
     U16U16U8,
 }
 
-// An opcode's shape, or 1.
-#[derive(Clone, Copy)]
-pub enum Shaped {
-    Is(Shape),
-    Refused(Refusal),
-}
-
 // An operand, by value. Keyword names travel beside it; here is their count.
 #[derive(Clone, Copy)]
 pub enum Operand {
@@ -136,41 +129,11 @@ pub enum Operand {
     U16U16U8(u16, u16, u8),
 }
 
-// What an instruction does to the depth: adds `up` and takes `down` away; or 1, then 2 or 3.
+// What an instruction does to the depth: adds `up` and takes `down` away.
 #[derive(Clone, Copy)]
-pub enum Effect {
-    By { up: u32, down: u32 },
-    Refused(Refusal),
-}
-
-// The same as the Rust's signed number.
-#[derive(Clone, Copy)]
-pub enum NetEffect {
-    Net(i32),
-    Refused(Refusal),
-}
-
-// What an opcode does to the depth whatever its operand, or that it goes by its operand; or 1.
-#[derive(Clone, Copy)]
-pub enum Fixed {
-    By { up: u32, down: u32 },
-    ByOperand,
-    Refused(Refusal),
-}
-
-// What the code behind an opcode is, or 1.
-#[derive(Clone, Copy)]
-pub enum Deadness {
-    Dead,
-    Live,
-    Refused(Refusal),
-}
-
-// The depth behind an instruction, or why there is none.
-#[derive(Clone, Copy)]
-pub enum After {
-    Depth(u16),
-    Refused(Refusal),
+pub struct Effect {
+    pub up: u32,
+    pub down: u32,
 }
 
 // The comparison operators of expressions.rs.
@@ -186,18 +149,4 @@ pub enum CmpOperator {
     IsNot,
     In,
     NotIn,
-}
-
-// What an assert compares by.
-#[derive(Clone, Copy)]
-pub enum Compared {
-    Nothing,
-    With(CmpOperator),
-}
-
-// What a flags byte of an assert means.
-#[derive(Clone, Copy)]
-pub enum AssertFlags {
-    Valid(Compared),
-    Invalid,
 }

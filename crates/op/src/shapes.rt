@@ -3,7 +3,7 @@ ghost use Rattle.std.specs.Prelude.{◌≡◌, get_or};
 ghost use Rattle.op.specs.Shapes.{shape_number, shape_of, operand_shape, shape_no, size_of};
 ghost use Rattle.op.specs.Inner.{shape_words, no_shapes};
 
-use crate::{Operand, Refusal, Shape, Shaped, rows};
+use crate::{Operand, Refusal, Shape, rows};
 
 // The shapes' numbers in op.rs.
 const NONE: u8 = 0;
@@ -67,24 +67,24 @@ pub fn shape_number(opcode: u8) -> u8
 }
 
 // An opcode's shape, or 1.
-pub fn operand_shape(opcode: u8) -> Shaped
+pub fn operand_shape(opcode: u8) -> Result<Shape, Refusal>
     ensures { result ≡ shape_of opcode }
 {
     let n = shape_number(opcode);
     match n {
-        NONE => Shaped::Is(Shape::None),
-        U8 => Shaped::Is(Shape::U8),
-        I8 => Shaped::Is(Shape::I8),
-        U16 => Shaped::Is(Shape::U16),
-        OFFSET => Shaped::Is(Shape::Offset),
-        U8U8 => Shaped::Is(Shape::U8U8),
-        U16U8 => Shaped::Is(Shape::U16U8),
-        U16U16 => Shaped::Is(Shape::U16U16),
-        U16U8U8 => Shaped::Is(Shape::U16U8U8),
-        CALL_KW => Shaped::Is(Shape::CallKw),
-        CALL_ATTR_KW => Shaped::Is(Shape::CallAttrKw),
-        U16U16U8 => Shaped::Is(Shape::U16U16U8),
-        _ => Shaped::Refused(Refusal::UnknownOpcode),
+        NONE => Ok(Shape::None),
+        U8 => Ok(Shape::U8),
+        I8 => Ok(Shape::I8),
+        U16 => Ok(Shape::U16),
+        OFFSET => Ok(Shape::Offset),
+        U8U8 => Ok(Shape::U8U8),
+        U16U8 => Ok(Shape::U16U8),
+        U16U16 => Ok(Shape::U16U16),
+        U16U8U8 => Ok(Shape::U16U8U8),
+        CALL_KW => Ok(Shape::CallKw),
+        CALL_ATTR_KW => Ok(Shape::CallAttrKw),
+        U16U16U8 => Ok(Shape::U16U16U8),
+        _ => Err(Refusal::UnknownOpcode),
     }
 }
 

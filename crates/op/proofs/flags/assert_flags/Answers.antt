@@ -5,5 +5,5 @@ use Prim.Native.Nat.{◌+◌}
 use Rattle.op.specs.Flags.{flags_of}
 use Rattle.op.proofs.flags.assert_flags.Goals as goal
 
-pub returns-in-With : goal.returns-in-With
-returns-in-With c = ap (◌+◌ 16) c.as_operand.ensures.0 ∙ sym (ap flags_of c.in-With.is)
+pub returns-in-Some : goal.returns-in-Some
+returns-in-Some c = ap (◌+◌ 16) c.as_operand.ensures.0 ∙ sym (ap flags_of c.in-Some.is)
