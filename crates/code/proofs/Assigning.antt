@@ -1,6 +1,9 @@
 -- Laws of assignments: a derived depth is in each of them, one whose depths are all derived is the smallest, and
 -- there is one smallest.
 -- Assumes nothing.
+use Rattle.op.specs.declared.Effect.{Effect}
+use Rattle.op.specs.declared.Refusal.{Refusal}
+use Rattle.std.specs.Prelude.{Ok, Err, Result}
 use mathlib.Core.Path.{◌≡◌, refl, sym, ap, subst, ◌∙◌}
 use mathlib.Core.Bool.{Bool, true, false, cond}
 use mathlib.Core.List.{List}
@@ -11,28 +14,25 @@ use lib.Dec.{leb}
 use borrow.Author.Tests.{le-leb, leb-true}
 use Rattle.base.proofs.Bools.{clash}
 use Rattle.op.specs.Depths.{deepest, landing}
-use Rattle.op.specs.declared.After.{After}
-use Rattle.op.specs.declared.After.TheVariants as A
-use Rattle.code.specs.declared.Change.{Change}
 use Rattle.code.specs.declared.Flow.{Flow}
 use Rattle.code.specs.declared.Goal.TheVariants.{Nowhere, To, Outside}
 use Rattle.code.specs.Depths.{Stands, Leads, Assigns, Smallest, Impossible, Derived, start, fall, jump}
 
 -- a change's lead, in numbers
 
-chosen : (b : Bool) (x e : ℕ) (y : After) → cond b (A.Depth x) y ≡ A.Depth e → (y ≡ A.Depth e → ⊥)
+chosen : (b : Bool) (x e : ℕ) (y : Result ℕ Refusal) → cond b (Ok x) y ≡ Ok e → (y ≡ Ok e → ⊥)
     → (b ≡ true) × (x ≡ e)
 chosen true x e y h n = (refl, cc)
 chosen false x e y h n = absurd (n h)
 
-under : (b : Bool) (x y : After) (e : ℕ) → cond b x y ≡ A.Depth e → (y ≡ A.Depth e → ⊥) → (b ≡ true) × (x ≡ A.Depth e)
+under : (b : Bool) (x y : Result ℕ Refusal) (e : ℕ) → cond b x y ≡ Ok e → (y ≡ Ok e → ⊥) → (b ≡ true) × (x ≡ Ok e)
 under true x y e h n = (refl, h)
 under false x y e h n = absurd (n h)
 
-no_depth_lem : {r : _} {e : ℕ} → A.Refused r ≡ A.Depth e → ⊥
+no_depth_lem : {r : Refusal} {e : ℕ} → Err r ≡ Ok e → ⊥
 no_depth_lem {r} {e} h = clash cc
 
-pub leads_is : (d : ℕ) (c : Change) (e : ℕ) → Leads d c e → (e + c.down ≡ d + c.up) × (e ≤ 65535)
+pub leads_is : (d : ℕ) (c : Effect) (e : ℕ) → Leads d c e → (e + c.down ≡ d + c.up) × (e ≤ 65535)
 unfolding landing
 leads_is d c e h =
     let p = under (leb c.down (d + c.up)) _ _ e h no_depth_lem in
@@ -41,13 +41,13 @@ leads_is d c e h =
     let m = leb-true (d + c.up - c.down) deepest q.0 in
     (omega (arith, q.1), omega (arith, q.1))
 
-pub leads : (d : ℕ) (c : Change) (e : ℕ) → e + c.down ≡ d + c.up → e ≤ 65535 → Leads d c e
+pub leads : (d : ℕ) (c : Effect) (e : ℕ) → e + c.down ≡ d + c.up → e ≤ 65535 → Leads d c e
 unfolding landing
 leads d c e h l =
     let z : d + c.up - c.down ≡ e = omega arith in
     rw (le-leb c.down (d + c.up) (omega arith), z, le-leb e 65535 l)
 
-pub leads_one : (d : ℕ) (c : Change) (e g : ℕ) → Leads d c e → Leads d c g → e ≡ g
+pub leads_one : (d : ℕ) (c : Effect) (e g : ℕ) → Leads d c e → Leads d c g → e ≡ g
 leads_one d c e g h k = cc
 
 -- derived depths

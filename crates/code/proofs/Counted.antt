@@ -1,5 +1,8 @@
 -- Counting the instructions of a code: what a loop knows after n of them.
 -- Assumes nothing.
+use Rattle.code.specs.declared.Stopped.{Stopped}
+use Rattle.code.specs.Decode.{instr}
+use Rattle.std.specs.Prelude.{Ok, Err, Some, None, Result}
 use mathlib.Core.Path.{◌≡◌, refl, sym, ap, ◌∙◌}
 use mathlib.Core.List.{List}
 use mathlib.Core.Option.{Option, some, none}
@@ -9,17 +12,13 @@ use native.Mathlib.Omega.{arith}
 use lib.ListN.{length, drop}
 use Rattle.op.specs.declared.Operand.{Operand}
 use Rattle.op.specs.declared.Refusal.{Refusal}
-use Rattle.code.specs.declared.Count.{Count}
-use Rattle.code.specs.declared.Step.{Step}
-use Rattle.code.specs.declared.Step.TheVariants.{Instr, End, Refused}
 use Rattle.code.specs.Decode.{decode}
 use Rattle.code.specs.Reading.{Read, stops_at, count_by, count_of}
-use Rattle.code.specs.Inner.{stopped}
 use Rattle.code.proofs.Decoding.{decoded_ends}
 use Rattle.code.proofs.Instructions.{read_from, reads_on, reads_end, reads_fault}
 
 -- n instructions in front of what was read
-abbrev counted : ℕ → Read → Count
+abbrev counted : ℕ → Read → Result ℕ Stopped
 counted n read = count_by (n + length read.spots) read.fault
 
 -- n instructions end at `at`, and what is left is counted from there
@@ -40,7 +39,7 @@ counting_none last s =
 
 -- behind an instruction
 pub counting_on : (last : ℕ) (s : List ℕ) (at n k : ℕ) (o : Operand) (z : ℕ) → Counting last s at n
-    → decode last at (drop at s) ≡ Instr k o z → Counting last s (at + z) (n + 1)
+    → decode last at (drop at s) ≡ Ok (Some (instr k o z)) → Counting last s (at + z) (n + 1)
 counting_on last s at n k o z c e =
     let ends = decoded_ends last at s k o z e in
     let more = read_from last s (at + z) in
@@ -56,9 +55,12 @@ stop_here : (last : ℕ) (s : List ℕ) (at n : ℕ) (fault : Option Refusal) �
 stop_here last s at n fault c e =
     ap (λ (m : ℕ). count_by m fault) (sym (add-zero n)) ∙ sym (c.so_far ∙ ap (counted n) e)
 
--- at the end, or at a fault
-pub counting_stop : (last : ℕ) (s : List ℕ) (at n : ℕ) (t : Step) → ((k : ℕ) (o : Operand) (z : ℕ) → t ≡ Instr k o z → ⊥)
-    → Counting last s at n → decode last at (drop at s) ≡ t → stopped n t ≡ count_of last s
-counting_stop last s at n (Instr k o z) h c e = absurd (h k o z refl)
-counting_stop last s at n End h c e = stop_here last s at n none c (reads_end last s at e)
-counting_stop last s at n (Refused r) h c e = stop_here last s at n (some r) c (reads_fault last s at r e)
+-- at the end
+pub counting_end : (last : ℕ) (s : List ℕ) (at n : ℕ) → Counting last s at n → decode last at (drop at s) ≡ Ok None
+    → Ok n ≡ count_of last s
+counting_end last s at n c e = stop_here last s at n none c (reads_end last s at e)
+
+-- at a fault
+pub counting_fault : (last : ℕ) (s : List ℕ) (at n : ℕ) (r : Refusal) → Counting last s at n
+    → decode last at (drop at s) ≡ Err r → Err (record { count = n; refusal = r }) ≡ count_of last s
+counting_fault last s at n r c e = stop_here last s at n (some r) c (reads_fault last s at r e)

@@ -1,5 +1,7 @@
 -- The decoder and the encoding are each other's inverse, names included.
 -- Assumes nothing.
+use Rattle.code.specs.Decode.{instr}
+use Rattle.std.specs.Prelude.{Ok, Some}
 use mathlib.Core.Path.{◌≡◌, refl, sym, ap, ◌∙◌}
 use mathlib.Core.List.{List, [], ◌∷◌, ◌++◌, append_assoc}
 use Prim.Native.Nat.{ℕ, zero, suc, ◌+◌, ◌*◌, ◌/◌, ◌%◌, ◌<◌, ◌≤◌}
@@ -14,7 +16,6 @@ use Rattle.op.specs.declared.Operand.{Operand}
 use Rattle.op.specs.declared.Operand.TheVariants as O
 use Rattle.op.specs.declared.Shape.{Shape}
 use Rattle.op.specs.declared.Shape.TheVariants as S
-use Rattle.code.specs.declared.Step.TheVariants.{Instr}
 use Rattle.code.specs.Bytes.{word_at, names_bytes, words_in, signed, unsigned}
 use Rattle.code.specs.Decode.{operand_in, names_in, decode, names_at}
 use Rattle.code.specs.Encode.{operand_bytes, encode, SignsFit, Formed}
@@ -96,7 +97,7 @@ read_back k (O.U16U16U8 a b c) t r = cc (word a, word b)
 
 -- under each table that has the opcode, whatever follows
 module _ (last k : ℕ) (o : Operand) (names rest : List ℕ) (l : k ≤ last) (f : Formed k o names) where
-  pub decode_encode : (at : ℕ) → decode last at (encode k o names ++ rest) ≡ Instr k o (length (encode k o names))
+  pub decode_encode : (at : ℕ) → decode last at (encode k o names ++ rest) ≡ Ok (Some (instr k o (length (encode k o names))))
   unfolding encode
   decode_encode at =
       let s = operand_shape o in
@@ -108,7 +109,7 @@ module _ (last k : ℕ) (o : Operand) (names rest : List ℕ) (l : k ≤ last) (
       let z : size_of s (names_in o) ≡ length (encode k o names) =
       ap (size_of s) f.count ∙ sym (length_encode k o names f.count) in
       decode_whole last at k t s o l f.shape b (omega (arith, z, length-append (encode k o names) rest))
-      ∙ ap (Instr k o) z
+      ∙ ap (λ (n : ℕ). Ok (Some (instr k o n))) z
 
   pub names_encode : names_at last (encode k o names ++ rest) ≡ names_bytes names
   unfolding encode

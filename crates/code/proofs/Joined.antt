@@ -1,5 +1,6 @@
 -- The handler lookup over a list of records is the flat lookup over their rows joined.
 -- Assumes nothing.
+use Rattle.std.specs.Prelude.{Some, None, Option}
 use Prim.Native.Nat.{ℕ, zero, suc, ◌+◌}
 use native.Mathlib.Nat.{zero-add, add-zero}
 use native.Mathlib.Omega.{arith}
@@ -15,17 +16,14 @@ use Rattle.code.specs.Tables.{exception_cells}
 use Rattle.code.specs.Lookups.{handler_row, handler_cells, covers_of, covering, first_covering, handler_of}
 use Rattle.code.specs.Rows.{row_count, cell, first}
 use Rattle.code.specs.declared.ExceptionEntry.{ExceptionEntry}
-use Rattle.code.specs.declared.Found.TheVariants as F
-use Rattle.code.specs.declared.Handled.{Handled}
-use Rattle.code.specs.declared.Handled.TheVariants as H
 use Rattle.code.specs.declared.HandlerRow.{HandlerRow}
 
 -- the flat lookup's answer, its rows numbered from j
-abbrev handler_from : List ℕ → ℕ → ℕ → Handled
+abbrev handler_from : List ℕ → ℕ → ℕ → Option (ℕ × HandlerRow)
 handler_from cells x j =
     cond (ltb (first_covering cells x) (row_count exception_cells cells))
-    (H.Row (j + first_covering cells x) (handler_row cells (first_covering cells x)))
-    H.Absent
+    (Some ((j + first_covering cells x), (handler_row cells (first_covering cells x))))
+    None
 
 module _ (e : ExceptionEntry) (cells : List ℕ) (x : ℕ) where
   abbrev more : List ℕ
@@ -60,7 +58,7 @@ module _ (e : ExceptionEntry) (cells : List ℕ) (x : ℕ) where
       (first_same (λ i. covering more x (suc i)) (covering cells x) (row_count exception_cells cells) covering_more))
 
   -- that entry is found, or what the rest has
-  from_more : (j : ℕ) (b : Bool) → contains e x ≡ b → handler_from more x j ≡ cond b (H.Row j (entry_row e)) (handler_from cells x (j + 1))
+  from_more : (j : ℕ) (b : Bool) → contains e x ≡ b → handler_from more x j ≡ cond b (Some (j, (entry_row e))) (handler_from cells x (j + 1))
   from_more j true hit =
       rw (first_more, count_more, hit, lt-ltb 0 (suc (row_count exception_cells cells)) (omega arith), add-zero j)
   from_more j false miss =
@@ -76,7 +74,7 @@ numbered (e ∷ es) x j = go (contains e x) refl (numbered es x (j + 1))
     go : (b : Bool)
         → contains e x ≡ b
         → handler_from (table_of es) x (j + 1) ≡ flat_answer (find_from es x (j + 1))
-        → handler_from (table_of (e ∷ es)) x j ≡ flat_answer (cond b (F.Row j e) (find_from es x (j + 1)))
+        → handler_from (table_of (e ∷ es)) x j ≡ flat_answer (cond b (Some (j, e)) (find_from es x (j + 1)))
     go true hit rest = from_more e (table_of es) x j true hit
     go false miss rest = from_more e (table_of es) x j false miss ∙ rest
 
@@ -87,8 +85,8 @@ records_flat es x = ap (λ (i : ℕ). answer_at i) (sym (zero-add (first_coverin
     cells : List ℕ
     cells = table_of es
 
-    answer_at : ℕ → Handled
+    answer_at : ℕ → Option (ℕ × HandlerRow)
     answer_at i =
         cond (ltb (first_covering cells x) (row_count exception_cells cells))
-        (H.Row i (handler_row cells (first_covering cells x)))
-        H.Absent
+        (Some (i, (handler_row cells (first_covering cells x))))
+        None

@@ -1,5 +1,10 @@
 -- Laws of `flow_of`: a law for each case of the code, and what callers need of an instruction that flows on.
 -- Assumes nothing.
+use Rattle.code.specs.Decode.{instr}
+use Rattle.code.specs.Decode.{Step}
+use Rattle.op.specs.Effects.{by}
+use Rattle.op.specs.declared.Effect.{Effect}
+use Rattle.std.specs.Prelude.{Ok, Err, Some, None, Result}
 use mathlib.Core.Path.{◌≡◌, refl, sym, ap, ◌∙◌}
 use mathlib.Core.Bool.{Bool, true, false, cond, not}
 use mathlib.Core.List.{List}
@@ -16,24 +21,16 @@ use Rattle.op.specs.Opcodes.{n_minus_one, both, minus_both, one_minus_both, exte
 use Rattle.op.specs.Opcodes.{match_keys, table, known, row_of}
 use Rattle.op.specs.Shapes.{shape_number, shape_in, shape_of, operand_shape, size_of}
 use Rattle.op.specs.Effects.{rule_in, former_of, last_of, effect_by, effect_of, effect_from, fixed_of, taken_of}
-use Rattle.op.specs.declared.Effect.{Effect}
-use Rattle.op.specs.declared.Effect.TheVariants as E
-use Rattle.op.specs.declared.Fixed.TheVariants as X
 use Rattle.op.specs.declared.Operand.{Operand}
 use Rattle.op.specs.declared.Operand.TheVariants as O
 use Rattle.op.specs.declared.Refusal.{Refusal}
 use Rattle.op.specs.declared.Shape.{Shape}
 use Rattle.op.specs.declared.Shape.TheVariants as S
-use Rattle.op.specs.declared.Shaped.TheVariants as P
 use Rattle.op.proofs.Effected.{shape_is, effect_fits, effect_from_lem, fixed_effect, fixed_refused}
 use Rattle.base.proofs.Keys.{in_range}
 use Rattle.op.proofs.Listed.{known_row}
-use Rattle.code.specs.declared.Change.{Change}
 use Rattle.code.specs.declared.Flow.{Flow}
-use Rattle.code.specs.declared.Flowing.TheVariants as F
 use Rattle.code.specs.declared.Goal.TheVariants.{Nowhere, To, Outside}
-use Rattle.code.specs.declared.Step.{Step}
-use Rattle.code.specs.declared.Step.TheVariants.{Instr, End, Refused}
 use Rattle.code.specs.Bytes.{word_at, signed, unsigned}
 use Rattle.code.specs.Decode.{operand_in, names_in, decode}
 use Rattle.code.specs.Flow.{goal_by, goal_of, change_of, flow_by, flowing_by, flow_of}
@@ -112,15 +109,15 @@ module _ (next end : ℕ) (x : Shape) (u : List ℕ) (n : ℕ) (is : n ≡ shape
 
 -- nets, without the operand
 
-module _ (k : ℕ) (x : Shape) (u : List ℕ) (e : shape_of k ≡ P.Is x) where
+module _ (k : ℕ) (x : Shape) (u : List ℕ) (e : shape_of k ≡ Ok x) where
   by_two : effect_of k (operand_in x u) ≡ effect_from k (former_of (operand_in x u)) (last_of (operand_in x u))
   by_two = effect_from_lem k (operand_in x u) x e (ap shape_number (sym (shape_in_lem x u)))
 
-  pub net_fixed : (up down : ℕ) → fixed_of k ≡ X.By up down
+  pub net_fixed : (up down : ℕ) → fixed_of k ≡ Ok (Some (by up down))
       → record { up = up; down = down } ≡ change_of (effect_of k (operand_in x u))
   net_fixed up down f = sym (ap change_of (by_two ∙ fixed_effect k up down _ _ f))
 
-  pub net_refused : (r : Refusal) → fixed_of k ≡ X.Refused r
+  pub net_refused : (r : Refusal) → fixed_of k ≡ Err r
       → record { up = 0; down = 0 } ≡ change_of (effect_of k (operand_in x u))
   net_refused r f = sym (ap change_of (by_two ∙ fixed_refused k r _ _ f))
 
@@ -148,19 +145,19 @@ goal_next at z end (O.CallAttrKw attribute positional names) e = refl
 goal_next at z end (O.U16U16U8 a b c) e = refl
 
 module _ (last at : ℕ) (s : List ℕ) where
-  pub flow_op : (k : ℕ) (o : Operand) (z : ℕ) → decode last at (drop at s) ≡ Instr k o z
-      → F.Op (flow_by (at + z) (length s) k o z) ≡ flow_of last at (drop at s)
+  pub flow_op : (k : ℕ) (o : Operand) (z : ℕ) → decode last at (drop at s) ≡ Ok (Some (instr k o z))
+      → Ok (Some (flow_by (at + z) (length s) k o z)) ≡ flow_of last at (drop at s)
   unfolding flow_of
   flow_op k o z e =
       let d = decoded last at (drop at s) k o z e in
       let l : at + length (drop at s) ≡ length s = omega (arith, length-drop at s, d.some, d.fits) in
       rw (e, l, goal_next at z (length s) o d.size)
 
-  pub flow_end : decode last at (drop at s) ≡ End → F.End ≡ flow_of last at (drop at s)
+  pub flow_end : decode last at (drop at s) ≡ (Ok None) → Ok None ≡ flow_of last at (drop at s)
   unfolding flow_of
   flow_end e = rw e
 
-  pub flow_refused : (r : Refusal) → decode last at (drop at s) ≡ Refused r → F.Refused r ≡ flow_of last at (drop at s)
+  pub flow_refused : (r : Refusal) → decode last at (drop at s) ≡ Err r → Err r ≡ flow_of last at (drop at s)
   unfolding flow_of
   flow_refused r e = rw e
 
@@ -170,48 +167,48 @@ module _ (last at : ℕ) (s : List ℕ) where
 pub record Flowed (last at : ℕ) (s : List ℕ) (f : Flow) : Type 0 where
   pub opcode : ℕ
   pub operand : Operand
-  pub step : decode last at (drop at s) ≡ Instr opcode operand f.size
+  pub step : decode last at (drop at s) ≡ Ok (Some (instr opcode operand f.size))
   pub flow : f ≡ flow_by (at + 3) (length s) opcode operand f.size
   pub some : 0 < f.size
   pub ends : at + f.size ≤ length s
 
 flowed_by : (last at : ℕ) (s : List ℕ) (f : Flow) (x : Step) → decode last at (drop at s) ≡ x
-    → flowing_by at (at + length (drop at s)) x ≡ F.Op f → Flowed last at s f
-flowed_by last at s f End ex e = clash cc
-flowed_by last at s f (Refused r) ex e = clash cc
-flowed_by last at s f (Instr k o z) ex e =
-    let d = decoded last at (drop at s) k o z ex in
+    → flowing_by at (at + length (drop at s)) x ≡ Ok (Some f) → Flowed last at s f
+flowed_by last at s f (Ok None) ex e = clash cc
+flowed_by last at s f (Err r) ex e = clash cc
+flowed_by last at s f (Ok (Some i)) ex e =
+    let d = decoded last at (drop at s) i.opcode i.operand i.size ex in
     let l : at + length (drop at s) ≡ length s = omega (arith, length-drop at s, d.some, d.fits) in
-    let q : flow_by (at + 3) (at + length (drop at s)) k o z ≡ f = cc in
-    let ef : f ≡ flow_by (at + 3) (length s) k o z = rw l at (sym q) in
-    let ez : z ≡ f.size = sym (ap (λ (g : Flow). g.size) ef) in
-    let b = decoded_ends last at s k o z ex in
+    let q : flow_by (at + 3) (at + length (drop at s)) i.opcode i.operand i.size ≡ f = cc in
+    let ef : f ≡ flow_by (at + 3) (length s) i.opcode i.operand i.size = rw l at (sym q) in
+    let ez : i.size ≡ f.size = sym (ap (λ (g : Flow). g.size) ef) in
+    let b = decoded_ends last at s i.opcode i.operand i.size ex in
     record {
-      opcode = k;
-      operand = o;
+      opcode = i.opcode;
+      operand = i.operand;
       step = rw ez at ex;
       flow = rw ez at ef;
       some = omega (arith, b.0, ez);
       ends = omega (arith, b.1, ez);
     }
 
-pub flowed : (last at : ℕ) (s : List ℕ) (f : Flow) → flow_of last at (drop at s) ≡ F.Op f → Flowed last at s f
+pub flowed : (last at : ℕ) (s : List ℕ) (f : Flow) → flow_of last at (drop at s) ≡ Ok (Some f) → Flowed last at s f
 unfolding flow_of
 flowed last at s f e = flowed_by last at s f (decode last at (drop at s)) refl e
 
 -- an effect's change is the effect, where it is not refused
-abbrev pub of_change : Change → Effect
-of_change c = E.By c.up c.down
+abbrev pub of_change : Effect → Result Effect Refusal
+of_change c = Ok (by c.up c.down)
 
-abbrev pub is_by : Effect → Bool
-is_by (E.By up down) = true
-is_by (E.Refused r) = false
+abbrev pub is_by : Result Effect Refusal → Bool
+is_by (Ok effect) = true
+is_by (Err r) = false
 
-pub change_is : (e : Effect) → is_by e ≡ true → of_change (change_of e) ≡ e
-change_is (E.By up down) h = refl
-change_is (E.Refused r) h = cc
+pub change_is : (e : Result Effect Refusal) → is_by e ≡ true → of_change (change_of e) ≡ e
+change_is (Ok effect) h = refl
+change_is (Err r) h = cc
 
-by_mode : (b : Bool) → is_by (cond b (E.By 0 1) (E.By 2 0)) ≡ true
+by_mode : (b : Bool) → is_by (cond b (Ok (by 0 1)) (Ok (by 2 0))) ≡ true
 by_mode true = refl
 by_mode false = refl
 
@@ -236,7 +233,7 @@ rule_is_by assert m n = refl
 rule_is_by assert_failed m n = refl
 rule_is_by match_keys m n = by_mode (eqb n 1)
 
-module _ (k : ℕ) (o : Operand) (e : shape_of k ≡ P.Is (operand_shape o)) where
+module _ (k : ℕ) (o : Operand) (e : shape_of k ≡ Ok (operand_shape o)) where
   -- what decodes or is written has an effect
   pub net_is : of_change (change_of (effect_of k o)) ≡ effect_of k o
   net_is =
@@ -260,7 +257,7 @@ unfolding row_of table taken_of known agree
 jump_row k h = agreed _ _ (in_range (λ (i : ℕ). agree (eqb (shape_number (shape_in (row_of i))) 4) (is_by (taken_of i))) 0
     (length table) k (omega arith) (omega arith) tt)
 
-pub jumps_by_shape : (k : ℕ) (s : Shape) → shape_of k ≡ P.Is s → is_by (taken_of k) ≡ eqb (shape_number s) 4
+pub jumps_by_shape : (k : ℕ) (s : Shape) → shape_of k ≡ Ok s → is_by (taken_of k) ≡ eqb (shape_number s) 4
 jumps_by_shape k s e =
     let q = shape_is k s e in
     rw (← q.1) (sym (jump_row k ((known_row k).0 q.0)))

@@ -1,6 +1,10 @@
 -- Laws of instruction starts: they are in the code, none lies inside an instruction, and reading meets one fault at
 -- most.
 -- Assumes nothing.
+use Rattle.code.specs.Decode.{instr}
+use Rattle.code.specs.declared.Instr.{Instr}
+use Rattle.code.specs.Decode.{Step}
+use Rattle.std.specs.Prelude.{Ok, Err, Some, None}
 use mathlib.Core.Path.{◌≡◌, refl, sym, ap, subst, ◌∙◌}
 use mathlib.Core.List.Memᴰ
 use mathlib.Core.List.Memᴰ.{head as mhead}
@@ -16,9 +20,6 @@ use Rattle.base.proofs.Bools.{clash}
 use Rattle.op.specs.declared.Operand.{Operand}
 use Rattle.op.specs.declared.Refusal.{Refusal}
 use Rattle.code.specs.declared.Flow.{Flow}
-use Rattle.code.specs.declared.Flowing.TheVariants as F
-use Rattle.code.specs.declared.Step.{Step}
-use Rattle.code.specs.declared.Step.TheVariants.{Instr, End, Refused}
 use Rattle.code.specs.Decode.{decode}
 use Rattle.code.specs.Flow.{flowing_by, flow_of}
 use Rattle.code.specs.Reading.{Read, places_in}
@@ -51,42 +52,45 @@ stands_longer {last} {last'} {s} {o} {f} l e =
 -- what is no instruction is the end or a fault
 
 end_by : (last at : ℕ) (s : List ℕ) (x : Step) → decode last at (drop at s) ≡ x
-    → flowing_by at (at + length (drop at s)) x ≡ F.End → length s ≤ at
-end_by last at s (Instr k o z) ex e = clash cc
-end_by last at s End ex e = omega (arith, decode_end last at (drop at s) ex, length-drop at s)
-end_by last at s (Refused r) ex e = clash cc
+    → flowing_by at (at + length (drop at s)) x ≡ (Ok None) → length s ≤ at
+end_by last at s (Ok (Some i)) ex e = clash cc
+end_by last at s (Ok None) ex e = omega (arith, decode_end last at (drop at s) ex, length-drop at s)
+end_by last at s (Err r) ex e = clash cc
 
-pub ends_over : (last : ℕ) (s : List ℕ) (at : ℕ) → flow_of last at (drop at s) ≡ F.End → length s ≤ at
+pub ends_over : (last : ℕ) (s : List ℕ) (at : ℕ) → flow_of last at (drop at s) ≡ (Ok None) → length s ≤ at
 unfolding flow_of
 ends_over last s at e = end_by last at s (decode last at (drop at s)) refl e
 
 pub stands_no_fault : {last : ℕ} {s : List ℕ} {o : ℕ} {f : Flow} {q : Refusal} → Stands last s o f
-    → flow_of last o (drop o s) ≡ F.Refused q → ⊥
+    → flow_of last o (drop o s) ≡ Err q → ⊥
 stands_no_fault {last} {s} {o} {f} {q} e h =
     let x = e.is in
     clash cc
 
 fault_by : (last at : ℕ) (s : List ℕ) (q : Refusal) (x : Step) → decode last at (drop at s) ≡ x
-    → flowing_by at (at + length (drop at s)) x ≡ F.Refused q → decode last at (drop at s) ≡ Refused q
-fault_by last at s q (Instr k o z) ex e = clash cc
-fault_by last at s q End ex e = clash cc
-fault_by last at s q (Refused r) ex e = let x : r ≡ q = cc in ex ∙ ap Refused x
+    → flowing_by at (at + length (drop at s)) x ≡ Err q → decode last at (drop at s) ≡ Err q
+fault_by last at s q (Ok (Some i)) ex e = clash cc
+fault_by last at s q (Ok None) ex e = clash cc
+fault_by last at s q (Err r) ex e = let x : r ≡ q = cc in ex ∙ ap Err x
 
 -- the step of what stands
 
 module _ {last : ℕ} {s : List ℕ} {at : ℕ} where
-  stands_here : (k : ℕ) (o : Operand) (z : ℕ) → decode last at (drop at s) ≡ Instr k o z
+  stands_here : (k : ℕ) (o : Operand) (z : ℕ) → decode last at (drop at s) ≡ Ok (Some (instr k o z))
       → (f : Flow) × (Stands last s at f × (at + f.size ≡ at + z))
   stands_here k o z e = (_, (record { is = sym (flow_op last at s k o z e) }, refl))
 
-  same_size : (k : ℕ) (o : Operand) (z : ℕ) (f : Flow) → decode last at (drop at s) ≡ Instr k o z → Stands last s at f
+  same_size : (k : ℕ) (o : Operand) (z : ℕ) (f : Flow) → decode last at (drop at s) ≡ Ok (Some (instr k o z)) → Stands last s at f
       → f.size ≡ z
-  same_size k o z f e h = let g = (flowed last at s f h.is).step in cc
+  same_size k o z f e h =
+      let g = flowed last at s f h.is in
+      let same : instr g.opcode g.operand f.size ≡ instr k o z = let here = g.step in cc in
+      ap (λ (i : Instr). i.size) same
 
-  not_ended : (f : Flow) → decode last at (drop at s) ≡ End → Stands last s at f → ⊥
+  not_ended : (f : Flow) → decode last at (drop at s) ≡ (Ok None) → Stands last s at f → ⊥
   not_ended f e h = let g = (flowed last at s f h.is).step in clash cc
 
-  not_refused : (r : Refusal) (f : Flow) → decode last at (drop at s) ≡ Refused r → Stands last s at f → ⊥
+  not_refused : (r : Refusal) (f : Flow) → decode last at (drop at s) ≡ Err r → Stands last s at f → ⊥
   not_refused r f e h = let g = (flowed last at s f h.is).step in clash cc
 
 -- the offsets that reading from one on comes to
@@ -194,13 +198,13 @@ module _ {last : ℕ} {s : List ℕ} where
   ]
 
   -- where reading comes to a fault it stops, and where it comes to the end it met none
-  pub faulty_at : {o : ℕ} {q : Refusal} → Place last s o → flow_of last o (drop o s) ≡ F.Refused q → Faulty last s q
+  pub faulty_at : {o : ℕ} {q : Refusal} → Place last s o → flow_of last o (drop o s) ≡ Err q → Faulty last s q
   unfolding flow_of
   faulty_at {o} {q} p e =
       let d = fault_by last o s q (decode last o (drop o s)) refl e in
       record { is = come_fault last s 0 o p.is ∙ ap (λ (r : Read). r.fault) (reads_fault last s o q d) }
 
-  pub whole_at : {o : ℕ} → Place last s o → flow_of last o (drop o s) ≡ F.End → (q : Refusal) → Faulty last s q → ⊥
+  pub whole_at : {o : ℕ} → Place last s o → flow_of last o (drop o s) ≡ (Ok None) → (q : Refusal) → Faulty last s q → ⊥
   whole_at {o} p e q A =
       let d = decode_past last o s (ends_over last s o e) in
       let n : (read_from last s 0).fault ≡ none =

@@ -1,6 +1,7 @@
 -- A location that is recorded is found: a pushed row is read back as it was, the rows before it stay, and the lookup
 -- of its offset answers it.
 -- Assumes nothing.
+use Rattle.std.specs.Prelude.{Some}
 use Prim.Native.Nat.{ℕ, suc, ◌+◌, ◌*◌, ◌/◌, ◌≤◌, ◌<◌}
 use native.Mathlib.Omega.{arith}
 use borrow.Author.Count.{below_more}
@@ -16,7 +17,6 @@ use Rattle.code.specs.Rows.{cell}
 use Rattle.code.specs.Tables.{location_cells}
 use Rattle.code.specs.Locations.{location_count, location_numbers, location_row, push_location, used_locations}
 use Rattle.code.specs.Lookups.{RecordedIsFound, first_greater, greater, largest_u32, location_of}
-use Rattle.code.specs.declared.Located.TheVariants.{Row}
 use Rattle.code.specs.declared.LocationRow.{LocationRow}
 
 -- whole rows, and one more
@@ -69,10 +69,10 @@ module _ (before : List ℕ) (rows : ℕ) (row : LocationRow) (whole : length be
           hit = λ lt. let no : ⊥ = omega (arith, count_more) in absurd no;
         })
 
-    found_last : location_of more row.offset ≡ Row rows row
+    found_last : location_of more row.offset ≡ Some (rows, row)
     unfolding location_of
     found_last =
-        rw (le-ltb largest_u32 row.offset small, greater_last) (ap (λ (r : LocationRow). Row rows r) row_last)
+        rw (le-ltb largest_u32 row.offset small, greater_last) (ap (λ (r : LocationRow). Some (rows, r)) row_last)
 
 -- a pushed row
 

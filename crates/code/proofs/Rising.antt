@@ -1,6 +1,8 @@
 -- On offsets in rising order the location lookup answers the last row whose offset is not greater, as the Rust's
 -- binary search does: equality with the Rust (R58) is over offsets in rising order.
 -- Assumes nothing.
+use Rattle.code.specs.declared.LocationRow.{LocationRow}
+use Rattle.std.specs.Prelude.{Some, None, Option}
 use Prim.Native.Nat.{ℕ, zero, suc, ◌≤◌, ◌<◌}
 use native.Mathlib.Omega.{arith}
 use borrow.Author.Tests.{ltb-true, ltb-false, le-ltb}
@@ -9,8 +11,6 @@ use mathlib.Core.Path.{◌≡◌, refl}
 use Rattle.code.proofs.First.{IsFirst, is_first}
 use Rattle.code.specs.Locations.{location_count, location_row}
 use Rattle.code.specs.Lookups.{greater, first_greater, row_before, largest_u32, location_of}
-use Rattle.code.specs.declared.Located.{Located}
-use Rattle.code.specs.declared.Located.TheVariants.{Row, Absent}
 
 -- the offset of row i
 abbrev pub offset_of : List ℕ → ℕ → ℕ
@@ -27,9 +27,9 @@ pub record LastAtMost (cells : List ℕ) (x i : ℕ) : Type 0 where
   pub later : (j : ℕ) → i < j → j < location_count cells → x < offset_of cells j
 
 -- the answer is that row, or there is none
-abbrev pub AnswersLast : List ℕ → ℕ → Located → Type 0
-AnswersLast cells x (Row i r) = (r ≡ location_row cells i) × LastAtMost cells x i
-AnswersLast cells x Absent = (i : ℕ) → i < location_count cells → x < offset_of cells i
+abbrev pub AnswersLast : List ℕ → ℕ → Option (ℕ × LocationRow) → Type 0
+AnswersLast cells x (Some (i, r)) = (r ≡ location_row cells i) × LastAtMost cells x i
+AnswersLast cells x None = (i : ℕ) → i < location_count cells → x < offset_of cells i
 
 module _ (cells : List ℕ) (x : ℕ) (rising : Rising cells) where
   -- the row before the first greater one is the last at most x

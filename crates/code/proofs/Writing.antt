@@ -1,5 +1,7 @@
 -- The writer's answer: a law for each case of the code, and what it says that the bytes were written.
 -- Assumes nothing.
+use Rattle.code.specs.Decode.{instr}
+use Rattle.std.specs.Prelude.{Ok, Err, Some, Result}
 use mathlib.Core.Path.{◌≡◌, refl, sym, ap, ◌∙◌}
 use mathlib.Core.Bool.{Bool, true, false}
 use mathlib.Core.List.{List, [], ◌∷◌, ◌++◌, append-nil}
@@ -14,13 +16,8 @@ use Rattle.op.specs.declared.Operand.{Operand}
 use Rattle.op.specs.declared.Refusal.{Refusal}
 use Rattle.op.specs.declared.Refusal.TheVariants.{UnknownOpcode, WrongShape, TooManyKeywords, Full}
 use Rattle.op.specs.declared.Shape.{Shape}
-use Rattle.op.specs.declared.Shaped.{Shaped}
-use Rattle.op.specs.declared.Shaped.TheVariants as P
 use Rattle.op.specs.declared.Table.TheVariants.{Code}
 use Rattle.op.proofs.Shaping.{same_shape}
-use Rattle.code.specs.declared.Step.TheVariants.{Instr}
-use Rattle.code.specs.declared.Written.{Written}
-use Rattle.code.specs.declared.Written.TheVariants.{Size, Refused}
 use Rattle.code.specs.Bytes.{names_bytes, front}
 use Rattle.code.specs.Decode.{names_in, decode}
 use Rattle.code.specs.Encode.{operand_bytes, encode, written_if, written_by, written_of, filled, Writes, SignsFit}
@@ -29,22 +26,22 @@ use Rattle.code.specs.Inner.{Writable}
 use Rattle.code.proofs.Inverse.{length_encode, decode_encode}
 
 module _ (k : ℕ) (o : Operand) (n room : ℕ) where
-  pub written_unknown : (r : Refusal) → shape_of k ≡ P.Refused r → Refused UnknownOpcode ≡ written_of k o n room
+  pub written_unknown : (r : Refusal) → shape_of k ≡ Err r → Err UnknownOpcode ≡ written_of k o n room
   unfolding written_of
   written_unknown r e = rw e
 
-  module _ (s : Shape) (is : shape_of k ≡ P.Is s) where
-    pub written_many : 255 < n → Refused TooManyKeywords ≡ written_of k o n room
+  module _ (s : Shape) (is : shape_of k ≡ Ok s) where
+    pub written_many : 255 < n → Err TooManyKeywords ≡ written_of k o n room
     unfolding written_of
     written_many h = rw (is, lt-leb n 255 h)
 
     module _ (few : n ≤ 255) where
-      pub written_shape : (shape_number s ≡ shape_number (operand_shape o) → ⊥) → Refused WrongShape ≡ written_of k o n room
+      pub written_shape : (shape_number s ≡ shape_number (operand_shape o) → ⊥) → Err WrongShape ≡ written_of k o n room
       unfolding written_of
       written_shape h = rw (is, le-leb n 255 few, ne_eqb (shape_number s) (shape_number (operand_shape o)) h)
 
       module _ (same : shape_number s ≡ shape_number (operand_shape o)) where
-        pub written_count : (names_in o ≡ n → ⊥) → Refused WrongShape ≡ written_of k o n room
+        pub written_count : (names_in o ≡ n → ⊥) → Err WrongShape ≡ written_of k o n room
         unfolding written_of
         written_count h = rw (
           is,
@@ -54,7 +51,7 @@ module _ (k : ℕ) (o : Operand) (n room : ℕ) where
         )
 
         module _ (count : names_in o ≡ n) (z : ℕ) (ez : z ≡ size_of s n) where
-          pub written_full : room < z → Refused (Full Code) ≡ written_of k o n room
+          pub written_full : room < z → Err (Full Code) ≡ written_of k o n room
           unfolding written_of
           written_full h =
               rw (
@@ -65,7 +62,7 @@ module _ (k : ℕ) (o : Operand) (n room : ℕ) where
                 lt-leb (size_of s n) room (omega (arith, ez)),
               )
 
-          pub written_size : z ≤ room → Size z ≡ written_of k o n room
+          pub written_size : z ≤ room → Ok z ≡ written_of k o n room
           unfolding written_of
           written_size h =
               rw (
@@ -79,50 +76,50 @@ module _ (k : ℕ) (o : Operand) (n room : ℕ) where
 
 -- what `written_of k o n room ≡ Size z` says
 pub record Goes (k : ℕ) (o : Operand) (n room z : ℕ) : Type 0 where
-  pub shape : shape_of k ≡ P.Is (operand_shape o)
+  pub shape : shape_of k ≡ Ok (operand_shape o)
   pub few : n ≤ 255
   pub count : names_in o ≡ n
   pub size : z ≡ size_of (operand_shape o) n
   pub fits : z ≤ room
 
-passed : (t : Bool) (r : Refusal) (w : Written) (z : ℕ) → written_if t r w ≡ Size z → (t ≡ true) × (w ≡ Size z)
+passed : (t : Bool) (r : Refusal) (w : Result ℕ Refusal) (z : ℕ) → written_if t r w ≡ Ok z → (t ≡ true) × (w ≡ Ok z)
 passed true r w z e = (refl, e)
 passed false r w z e = (cc, cc)
 
-goes_by : (k : ℕ) (o : Operand) (n room z : ℕ) (p : Shaped) → shape_of k ≡ p → written_by p o n room ≡ Size z
+goes_by : (k : ℕ) (o : Operand) (n room z : ℕ) (p : Result Shape Refusal) → shape_of k ≡ p → written_by p o n room ≡ Ok z
     → Goes k o n room z
-goes_by k o n room z (P.Refused r) ep e = clash cc
-goes_by k o n room z (P.Is s) ep e =
-    let w4 : Written = Size (size_of s n) in
-    let w3 : Written = written_if (leb (size_of s n) room) (Full Code) w4 in
-    let w2 : Written = written_if (eqb (names_in o) n) WrongShape w3 in
-    let w1 : Written = written_if (eqb (shape_number s) (shape_number (operand_shape o))) WrongShape w2 in
+goes_by k o n room z (Err r) ep e = clash cc
+goes_by k o n room z (Ok s) ep e =
+    let w4 : (Result ℕ Refusal) = Ok (size_of s n) in
+    let w3 : (Result ℕ Refusal) = written_if (leb (size_of s n) room) (Full Code) w4 in
+    let w2 : (Result ℕ Refusal) = written_if (eqb (names_in o) n) WrongShape w3 in
+    let w1 : (Result ℕ Refusal) = written_if (eqb (shape_number s) (shape_number (operand_shape o))) WrongShape w2 in
     let e1 = passed (leb n 255) TooManyKeywords w1 z e in
     let e2 = passed (eqb (shape_number s) (shape_number (operand_shape o))) WrongShape w2 z e1.1 in
     let e3 = passed (eqb (names_in o) n) WrongShape w3 z e2.1 in
     let e4 = passed (leb (size_of s n) room) (Full Code) w4 z e3.1 in
     let es : s ≡ operand_shape o =
     same_shape s (operand_shape o) (eqb-true (shape_number s) (shape_number (operand_shape o)) e2.0) in
-    let ez : Size (size_of s n) ≡ Size z = e4.1 in
+    let ez : Ok (size_of s n) ≡ Ok z = e4.1 in
     let ez' : z ≡ size_of s n = cc in
     record {
-      shape = ep ∙ ap P.Is es;
+      shape = ep ∙ ap Ok es;
       few = leb-true n 255 e1.0;
       count = eqb-true (names_in o) n e3.0;
       size = ez' ∙ ap (λ (x : Shape). size_of x n) es;
       fits = omega (arith, leb-true (size_of s n) room e4.0, ez');
     }
 
-pub goes : (k : ℕ) (o : Operand) (n room z : ℕ) → written_of k o n room ≡ Size z → Goes k o n room z
+pub goes : (k : ℕ) (o : Operand) (n room z : ℕ) → written_of k o n room ≡ Ok z → Goes k o n room z
 unfolding written_of
 goes k o n room z e = goes_by k o n room z (shape_of k) refl e
 
 -- the other way: `Goes` says all of it
-pub going : (k : ℕ) (o : Operand) (n room z : ℕ) → Goes k o n room z → written_of k o n room ≡ Size z
+pub going : (k : ℕ) (o : Operand) (n room z : ℕ) → Goes k o n room z → written_of k o n room ≡ Ok z
 going k o n room z g =
     sym (written_size k o n room (operand_shape o) g.shape g.few refl g.count z g.size g.fits)
 
-pub writable : (k : ℕ) (o : Operand) (names out : List ℕ) (z : ℕ) → written_of k o (length names) (length out) ≡ Size z
+pub writable : (k : ℕ) (o : Operand) (names out : List ℕ) (z : ℕ) → written_of k o (length names) (length out) ≡ Ok z
     → Writable o names out
 writable k o names out z e =
     let g = goes k o (length names) (length out) z e in
@@ -156,14 +153,14 @@ arm_room o o' ns out w e = rw e at w.fits
 
 -- what was written
 
-module _ (k : ℕ) (o : Operand) (names out : List ℕ) (answer : Written) (out' : List ℕ)
+module _ (k : ℕ) (o : Operand) (names out : List ℕ) (answer : Result ℕ Refusal) (out' : List ℕ)
     (w : Writes k o names out answer out')
-    (z : ℕ) (e : answer ≡ Size z) where
-  is : written_of k o (length names) (length out) ≡ Size z
+    (z : ℕ) (e : answer ≡ Ok z) where
+  is : written_of k o (length names) (length out) ≡ Ok z
   is = sym w.answers ∙ e
 
   pub written_front : out' ≡ encode k o names ++ drop (length (encode k o names)) out
-  written_front = w.cells ∙ ap (λ (x : Written). filled x (encode k o names) out) is
+  written_front = w.cells ∙ ap (λ (x : Result ℕ Refusal). filled x (encode k o names) out) is
 
   pub written_length : z ≡ length (encode k o names)
   written_length = let g =
@@ -175,7 +172,7 @@ module _ (k : ℕ) (o : Operand) (names out : List ℕ) (answer : Written) (out'
     formed = let g = goes k o (length names) (length out) z is in
         record { shape = g.shape; signs = signs; count = g.count }
 
-    pub written_decodes : (last : ℕ) → k ≤ last → (at : ℕ) → decode last at out' ≡ Instr k o z
+    pub written_decodes : (last : ℕ) → k ≤ last → (at : ℕ) → decode last at out' ≡ Ok (Some (instr k o z))
     written_decodes last l at =
         rw (written_front, written_length)
         (decode_encode last k o names (drop (length (encode k o names)) out) l formed at)

@@ -2,23 +2,21 @@
 -- that a path from a start leads to. Here `last` is the last opcode of the table, s the code, st the lent starts, and an
 -- assignment gives an offset a depth or none.
 -- Assumes nothing.
-use Rattle.std.specs.Prelude.{◌≡◌, true, ℕ, suc, ◌+◌, ◌*◌, ◌≤◌, ◌<◌, length, drop, get_or}
+use Rattle.op.specs.Effects.{by}
+use Rattle.op.specs.declared.Effect.{Effect}
+use Rattle.std.specs.Prelude.{◌≡◌, true, ℕ, suc, ◌+◌, ◌*◌, ◌≤◌, ◌<◌, length, drop, get_or, Ok, Some}
 use mathlib.Core.List.{List, [], ◌∷◌, Memᴰ}
 use Rattle.std.proofs.Math.Option.{Option, some}
 use Rattle.op.specs.Depths.{deepest, landing, low_falling}
-use Rattle.op.specs.declared.After.TheVariants.{Depth}
-use Rattle.op.specs.declared.Effect.TheVariants as E
 use Rattle.op.specs.declared.Refusal.{Refusal}
-use Rattle.code.specs.declared.Change.{Change}
 use Rattle.code.specs.declared.Flow.{Flow}
-use Rattle.code.specs.declared.Flowing.TheVariants as F
 use Rattle.code.specs.declared.Goal.TheVariants.{Nowhere, To}
 use Rattle.code.specs.Flow.{flow_of}
 use Rattle.code.specs.Reading.{instructions_in, places_in}
 
 -- an instruction that moves on as f says stands at o
 pub record Stands (last : ℕ) (s : List ℕ) (o : ℕ) (f : Flow) : Type 0 where
-  pub is : flow_of last o (drop o s) ≡ F.Op f
+  pub is : flow_of last o (drop o s) ≡ Ok (Some f)
 
 -- "the instructions' starts and the end": reading from 0 on comes to o (R48)
 pub record Place (last : ℕ) (s : List ℕ) (o : ℕ) : Type 0 where
@@ -36,8 +34,8 @@ pub record Begins (st : List ℕ) (o d : ℕ) : Type 0 where
   pub depth : get_or st (2 * row + 1) 0 ≡ d
 
 -- the change c leads from the depth d to e, and e is in range
-abbrev pub Leads : ℕ → Change → ℕ → Type 0
-Leads d c e = landing low_falling d (E.By c.up c.down) ≡ Depth e
+abbrev pub Leads : ℕ → Effect → ℕ → Type 0
+Leads d c e = landing low_falling d (Ok (by c.up c.down)) ≡ Ok e
 
 -- the fall-through depth: in range also where the instruction falls nowhere; where it falls, the next place has that
 -- depth

@@ -1,17 +1,14 @@
 -- The bytes of an instruction, and what its writer does: R13, R17.
 -- Assumes nothing.
-use Rattle.std.specs.Prelude.{◌≡◌, Bool, cond, List, [], ◌∷◌, ◌++◌, ℕ, ◌<◌, leb, eqb, length}
+use Rattle.op.specs.declared.Shape.{Shape}
+use Rattle.std.specs.Prelude.{◌≡◌, Bool, cond, List, [], ◌∷◌, ◌++◌, ℕ, ◌<◌, leb, eqb, length, Ok, Err, Result}
 use Rattle.std.specs.Int.Signed.{mag}
 use Rattle.op.specs.Shapes.{shape_number, shape_of, operand_shape, size_of}
 use Rattle.op.specs.declared.Operand.{Operand}
 use Rattle.op.specs.declared.Operand.TheVariants as O
 use Rattle.op.specs.declared.Refusal.{Refusal}
 use Rattle.op.specs.declared.Refusal.TheVariants.{UnknownOpcode, WrongShape, TooManyKeywords, Full}
-use Rattle.op.specs.declared.Shaped.{Shaped}
-use Rattle.op.specs.declared.Shaped.TheVariants as P
 use Rattle.op.specs.declared.Table.TheVariants.{Code}
-use Rattle.code.specs.declared.Written.{Written}
-use Rattle.code.specs.declared.Written.TheVariants.{Size, Refused}
 use Rattle.code.specs.Bytes.{word_bytes, names_bytes, unsigned, front}
 use Rattle.code.specs.Decode.{names_in}
 
@@ -51,34 +48,34 @@ SignsFit (O.U16U16U8 a b c) = Unit {0}
 
 -- an instruction that is well formed: the operand has the opcode's shape, fits, and counts the names
 pub record Formed (k : ℕ) (o : Operand) (names : List ℕ) : Type 0 where
-  pub shape : shape_of k ≡ P.Is (operand_shape o)
+  pub shape : shape_of k ≡ Ok (operand_shape o)
   pub signs : SignsFit o
   pub count : names_in o ≡ length names
 
 -- what is refused where a test fails
-abbrev pub written_if : Bool → Refusal → Written → Written
-written_if t r w = cond t w (Refused r)
+abbrev pub written_if : Bool → Refusal → Result ℕ Refusal → Result ℕ Refusal
+written_if t r w = cond t w (Err r)
 
 -- 7, then 2 for a shape that isn't the opcode's and for a count that isn't the names', then 18; n names, so many bytes of room
-abbrev pub written_by : Shaped → Operand → ℕ → ℕ → Written
-written_by (P.Refused r) o n room = Refused UnknownOpcode
-written_by (P.Is s) o n room =
+abbrev pub written_by : Result Shape Refusal → Operand → ℕ → ℕ → Result ℕ Refusal
+written_by (Err r) o n room = Err UnknownOpcode
+written_by (Ok s) o n room =
     written_if (leb n 255) TooManyKeywords
     (written_if (eqb (shape_number s) (shape_number (operand_shape o))) WrongShape
     (written_if (eqb (names_in o) n) WrongShape
     (written_if (leb (size_of s n) room) (Full Code)
-    (Size (size_of s n)))))
+    (Ok (size_of s n)))))
 
 -- the writer's answer: 1 first (R17)
-unfoldable pub written_of : ℕ → Operand → ℕ → ℕ → Written
+unfoldable pub written_of : ℕ → Operand → ℕ → ℕ → Result ℕ Refusal
 written_of k o n room = written_by (shape_of k) o n room
 
 -- the bytes at the front, or no change
-abbrev pub filled : Written → List ℕ → List ℕ → List ℕ
-filled (Size z) bytes out = front bytes out
-filled (Refused r) bytes out = out
+abbrev pub filled : Result ℕ Refusal → List ℕ → List ℕ → List ℕ
+filled (Ok z) bytes out = front bytes out
+filled (Err r) bytes out = out
 
 -- the writer's answer, and every cell that it was lent (R17)
-pub record Writes (k : ℕ) (o : Operand) (names out : List ℕ) (answer : Written) (out' : List ℕ) : Type 0 where
+pub record Writes (k : ℕ) (o : Operand) (names out : List ℕ) (answer : Result ℕ Refusal) (out' : List ℕ) : Type 0 where
   pub answers : answer ≡ written_of k o (length names) (length out)
   pub cells : out' ≡ filled (written_of k o (length names) (length out)) (encode k o names) out

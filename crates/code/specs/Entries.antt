@@ -1,13 +1,9 @@
 -- The records of the tables, and the handler lookup over a list of them: code.rs, `ExceptionEntry`,
 -- `find_exception_handler`; "and over a lent slice of records" (R45).
 -- Assumes nothing.
-use Rattle.std.specs.Prelude.{ℕ, ◌+◌, Bool, true, false, cond, List, [], ◌∷◌, ◌++◌}
+use Rattle.std.specs.Prelude.{ℕ, ◌+◌, Bool, true, false, cond, List, [], ◌∷◌, ◌++◌, Some, None, Option}
 use Rattle.code.specs.Lookups.{covers_of, handler_cells}
 use Rattle.code.specs.declared.ExceptionEntry.{ExceptionEntry}
-use Rattle.code.specs.declared.Found.{Found}
-use Rattle.code.specs.declared.Found.TheVariants.{Row, Absent}
-use Rattle.code.specs.declared.Handled.{Handled}
-use Rattle.code.specs.declared.Handled.TheVariants as H
 use Rattle.code.specs.declared.HandlerKind.{HandlerKind}
 use Rattle.code.specs.declared.HandlerKind.TheVariants.{Consuming, Cleanup}
 use Rattle.code.specs.declared.HandlerRow.{HandlerRow}
@@ -22,9 +18,9 @@ pushes_exception Consuming = true
 pushes_exception Cleanup = false
 
 -- the first entry of a list that contains an offset, with its number; the entries are numbered from i (R45)
-unfoldable pub find_from : List ExceptionEntry → ℕ → ℕ → Found
-find_from [] x i = Absent
-find_from (e ∷ es) x i = cond (contains e x) (Row i e) (find_from es x (i + 1))
+unfoldable pub find_from : List ExceptionEntry → ℕ → ℕ → Option (ℕ × ExceptionEntry)
+find_from [] x i = None
+find_from (e ∷ es) x i = cond (contains e x) (Some (i, e)) (find_from es x (i + 1))
 
 -- "0 Consuming, 1 Cleanup"
 abbrev pub kind_number : HandlerKind → ℕ
@@ -49,6 +45,6 @@ table_of [] = []
 table_of (e ∷ es) = handler_cells (entry_row e) ++ table_of es
 
 -- an answer over records as the answer over their rows
-abbrev pub flat_answer : Found → Handled
-flat_answer (Row i e) = H.Row i (entry_row e)
-flat_answer Absent = H.Absent
+abbrev pub flat_answer : Option (ℕ × ExceptionEntry) → Option (ℕ × HandlerRow)
+flat_answer (Some (i, e)) = Some (i, (entry_row e))
+flat_answer None = None

@@ -1,19 +1,15 @@
 -- How the instruction at an offset moves on: R9, R10, R19.
 -- Assumes nothing.
-use Rattle.std.specs.Prelude.{cond, not, List, ℕ, suc, ◌+◌, ◌-◌, leb, ℤ, pos, negsuc, length}
-use Rattle.op.specs.Effects.{effect_of, taken_of, dead_maker}
+use Rattle.code.specs.Decode.{Step}
 use Rattle.op.specs.declared.Effect.{Effect}
-use Rattle.op.specs.declared.Effect.TheVariants as E
+use Rattle.op.specs.declared.Refusal.{Refusal}
+use Rattle.std.specs.Prelude.{cond, not, List, ℕ, suc, ◌+◌, ◌-◌, leb, ℤ, pos, negsuc, length, Ok, Err, Some, None, Result, Option}
+use Rattle.op.specs.Effects.{effect_of, taken_of, dead_maker}
 use Rattle.op.specs.declared.Operand.{Operand}
 use Rattle.op.specs.declared.Operand.TheVariants as O
-use Rattle.code.specs.declared.Change.{Change}
 use Rattle.code.specs.declared.Flow.{Flow}
-use Rattle.code.specs.declared.Flowing.{Flowing}
-use Rattle.code.specs.declared.Flowing.TheVariants as F
 use Rattle.code.specs.declared.Goal.{Goal}
 use Rattle.code.specs.declared.Goal.TheVariants.{Nowhere, To, Outside}
-use Rattle.code.specs.declared.Step.{Step}
-use Rattle.code.specs.declared.Step.TheVariants.{Instr, End, Refused}
 use Rattle.code.specs.Decode.{decode}
 
 -- next + z, where that is an offset of code of so many bytes, or its end
@@ -37,9 +33,9 @@ goal_of next end (O.CallAttrKw attribute positional names) = Nowhere
 goal_of next end (O.U16U16U8 a b c) = Nowhere
 
 -- what an effect adds and takes away; nothing where it is refused
-abbrev pub change_of : Effect → Change
-change_of (E.By up down) = record { up = up; down = down }
-change_of (E.Refused r) = record { up = 0; down = 0 }
+abbrev pub change_of : Result Effect Refusal → Effect
+change_of (Ok effect) = effect
+change_of (Err r) = record { up = 0; down = 0 }
 
 -- an instruction before `next`, in code of `end` bytes
 abbrev pub flow_by : ℕ → ℕ → ℕ → Operand → ℕ → Flow
@@ -51,11 +47,15 @@ flow_by next end k o size = record {
   falls = not (dead_maker k);
 }
 
+-- how the instruction at an offset moves on, nothing at or past the code's end, or a fault
+abbrev pub Flowing : Type 0
+Flowing = Result (Option Flow) Refusal
+
 -- "its target less the offset of its opcode less 3"
 abbrev pub flowing_by : ℕ → ℕ → Step → Flowing
-flowing_by at end (Instr k o size) = F.Op (flow_by (at + 3) end k o size)
-flowing_by at end End = F.End
-flowing_by at end (Refused r) = F.Refused r
+flowing_by at end (Ok (Some i)) = Ok (Some (flow_by (at + 3) end i.opcode i.operand i.size))
+flowing_by at end (Ok None) = Ok None
+flowing_by at end (Err r) = Err r
 
 -- the same of u, the code from an offset on, under a table that ends with the opcode `last` (R19)
 unfoldable pub flow_of : ℕ → ℕ → List ℕ → Flowing

@@ -1,29 +1,27 @@
 -- The location table: its row as numbers and as cells, and all that is done with the table: R21. Who records or looks
 -- up locations knows them by these definitions alone.
 -- Assumes nothing.
-use Rattle.std.specs.Prelude.{Bool, List, [], ◌∷◌, ℕ}
+use Rattle.std.specs.Prelude.{Bool, List, [], ◌∷◌, ℕ, Some, None, Option}
 use Rattle.code.specs.Rows.{row_count, cell}
 use Rattle.code.specs.Tables.{location_cells, push, room, used, within}
 use Rattle.code.specs.declared.CodeRange.{CodeRange}
-use Rattle.code.specs.declared.Focus.{Focus}
-use Rattle.code.specs.declared.Focus.TheVariants.{Absent, Present}
 use Rattle.code.specs.declared.LocationRow.{LocationRow}
 
 -- "focus present 0 or 1, focus start and end, the last two 0 without focus"
-abbrev pub focused : Focus → ℕ
-focused Absent = 0
-focused (Present range) = 1
+abbrev pub focused : Option CodeRange → ℕ
+focused None = 0
+focused (Some range) = 1
 
-abbrev pub focus_start_of : Focus → ℕ
-focus_start_of Absent = 0
-focus_start_of (Present range) = range.start
+abbrev pub focus_start_of : Option CodeRange → ℕ
+focus_start_of None = 0
+focus_start_of (Some range) = range.start
 
-abbrev pub focus_end_of : Focus → ℕ
-focus_end_of Absent = 0
-focus_end_of (Present range) = range.end
+abbrev pub focus_end_of : Option CodeRange → ℕ
+focus_end_of None = 0
+focus_end_of (Some range) = range.end
 
 -- the row of a location at an offset (R21)
-abbrev pub location_at : (offset : ℕ) (range : CodeRange) (focus : Focus) → LocationRow
+abbrev pub location_at : (offset : ℕ) (range : CodeRange) (focus : Option CodeRange) → LocationRow
 location_at offset range focus =
     record {
       offset = offset;

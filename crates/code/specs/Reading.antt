@@ -2,14 +2,12 @@
 -- Whoever counts, lists or checks instructions, or reads them back, does it through the one definition here,
 -- `instructions_in`. The table of opcodes is told by its last opcode, `last`.
 -- Assumes nothing.
-use Rattle.std.specs.Prelude.{List, [], ◌∷◌, ◌++◌, map, ℕ, zero, suc, ◌+◌, length, drop}
+use Rattle.code.specs.declared.Stopped.{Stopped}
+use Rattle.code.specs.Decode.{Step}
+use Rattle.std.specs.Prelude.{List, [], ◌∷◌, ◌++◌, map, ℕ, zero, suc, ◌+◌, length, drop, Ok, Err, Some, None, Result}
 use Rattle.std.proofs.Math.Option.{Option, some, none}
 use Rattle.op.specs.declared.Operand.{Operand}
 use Rattle.op.specs.declared.Refusal.{Refusal}
-use Rattle.code.specs.declared.Count.{Count}
-use Rattle.code.specs.declared.Count.TheVariants.{Whole, Stopped}
-use Rattle.code.specs.declared.Step.{Step}
-use Rattle.code.specs.declared.Step.TheVariants.{Instr, End, Refused}
 use Rattle.code.specs.Bytes.{words_in}
 use Rattle.code.specs.Decode.{decode, names_at}
 
@@ -49,9 +47,9 @@ spot_at last at u opcode operand size =
 
 -- what a step adds to what is read behind it; `rest` reads from an offset on
 abbrev pub read_by : (last : ℕ) (rest : ℕ → List ℕ → Read) (at : ℕ) (u : List ℕ) (step : Step) → Read
-read_by last rest at u (Instr k o size) = before (spot_at last at u k o size) (rest (at + size) (drop size u))
-read_by last rest at u End = stops_at at none
-read_by last rest at u (Refused r) = stops_at at (some r)
+read_by last rest at u (Ok (Some i)) = before (spot_at last at u i.opcode i.operand i.size) (rest (at + i.size) (drop i.size u))
+read_by last rest at u (Ok None) = stops_at at none
+read_by last rest at u (Err r) = stops_at at (some r)
 
 -- u, the code from an offset on, of which no more than so many instructions are read
 unfoldable pub read_up_to : (last most at : ℕ) (u : List ℕ) → Read
@@ -71,10 +69,10 @@ abbrev pub places_in : Read → List ℕ
 places_in r = map (λ (spot : Spot). spot.offset) r.spots ++ (r.stop ∷ [])
 
 -- so many instructions, to the end or to a fault
-abbrev pub count_by : (n : ℕ) (fault : Option Refusal) → Count
-count_by n none = Whole n
-count_by n (some r) = Stopped n r
+abbrev pub count_by : (n : ℕ) (fault : Option Refusal) → Result ℕ Stopped
+count_by n none = Ok n
+count_by n (some r) = Err (record { count = n; refusal = r })
 
 -- the instructions of a code, counted (R18)
-unfoldable pub count_of : (last : ℕ) (code : List ℕ) → Count
+unfoldable pub count_of : (last : ℕ) (code : List ℕ) → Result ℕ Stopped
 count_of last code = let read = instructions_in last code in count_by (length read.spots) read.fault

@@ -4,16 +4,15 @@ ghost use Rattle.op.specs.Opcodes.{last_opcode};
 ghost use Rattle.code.specs.Decode.{names_in, decode, names_at};
 
 use crate::{Step, steps};
-use op::{Operand, Refusal, Shaped, shapes};
+use op::{Operand, Refusal, shapes};
 
 // The instruction at the front of `bytes`, which stand at `at`.
 fn first(bytes: &[u8], at: usize) -> Step
     requires { 0 < length bytes.now }
     ensures { result ≡ decode last_opcode at bytes.now }
 {
-    let shaped = shapes::operand_shape(bytes[0]);
-    let Shaped::Is(shape) = shaped else {
-        return Step::Refused(Refusal::UnknownOpcodeAt(at));
+    let Ok(shape) = shapes::operand_shape(bytes[0]) else {
+        return Err(Refusal::UnknownOpcodeAt(at));
     };
     steps::shaped_step(bytes, at, shape)
 }
@@ -23,7 +22,7 @@ pub fn step_at(code: &[u8], at: usize) -> Step
     ensures { result ≡ decode last_opcode at (drop at code.now) }
 {
     if code.len() <= at {
-        return Step::End;
+        return Ok(None);
     }
     first(&code[at..], at)
 }
@@ -60,16 +59,13 @@ pub fn names_of(operand: Operand) -> usize
 pub fn names_at<'a>(code: &'a [u8], at: usize) -> &'a [u8]
     ensures { result.now ≡ names_at last_opcode (drop at code.now) }
 {
-    let step = step_at(code, at);
-    let Step::Instr {
-        opcode: _,
-        operand,
-        size,
-    } = step
-    else {
+    let Ok(found) = step_at(code, at) else {
         return &code[0..0];
     };
-    let end = at + size;
-    let start = end - 2 * names_of(operand);
+    let Some(instr) = found else {
+        return &code[0..0];
+    };
+    let end = at + instr.size;
+    let start = end - 2 * names_of(instr.operand);
     &code[start..end]
 }

@@ -2,10 +2,10 @@
 ghost use Rattle.std.specs.Prelude.{◌≡◌};
 ghost use Rattle.code.specs.Entries.{contains, pushes_exception};
 
-use crate::{CodeRange, ExceptionEntry, Focus, HandlerKind, LocationEntry, lookups};
+use crate::{CodeRange, ExceptionEntry, HandlerKind, LocationEntry, lookups};
 
 impl LocationEntry {
-    pub fn new(bytecode_offset: u32, range: CodeRange, focus: Focus) -> Self
+    pub fn new(bytecode_offset: u32, range: CodeRange, focus: Option<CodeRange>) -> Self
         ensures { result ≡ record { bytecode_offset = bytecode_offset; range = range; focus = focus } }
     {
         LocationEntry {

@@ -4,41 +4,41 @@ ghost use Rattle.std.specs.Prelude.{◌≡◌, ◌+◌, ◌<◌, ◌≤◌, leng
 ghost use Rattle.op.specs.Effects.{effect_of};
 ghost use Rattle.op.specs.Opcodes.{last_opcode};
 ghost use Rattle.op.specs.Shapes.{shape_of};
-ghost use Rattle.op.specs.declared.Shaped.TheVariants.{Is};
 ghost use Rattle.code.specs.Bytes.{signed};
 ghost use Rattle.code.specs.Decode.{operand_in};
 ghost use Rattle.code.specs.Flow.{goal_by, goal_of, change_of, flow_by, flow_of};
 
-use crate::{Change, Flow, Flowing, Goal, numbers};
-use op::{Effect, Fixed, Refusal, Shape, Shaped, effects, shapes};
+use crate::{Flow, Goal, numbers};
+use op::{Effect, Refusal, Shape, effects, shapes};
 
 // The number of the shape of jumps.
 const OFFSET: u8 = 4;
 
 // What an effect adds and takes away; nothing where it is refused.
-fn change_of(effect: Effect) -> Change
+fn change_of(effect: Result<Effect, Refusal>) -> Effect
     ensures { result ≡ change_of effect }
 {
     match effect {
-        Effect::By { up, down } => Change { up, down },
-        Effect::Refused(_) => Change { up: 0, down: 0 },
+        Ok(effect) => effect,
+        Err(_) => Effect { up: 0, down: 0 },
     }
 }
 
 // What the instruction at an offset does to the depth where it falls through.
-fn net_at(code: &[u8], at: usize, opcode: u8, shape: Shape) -> Change
-    requires { (at < length code.now) × (shape_of opcode ≡ Is shape) }
+fn net_at(code: &[u8], at: usize, opcode: u8, shape: Shape) -> Effect
+    requires { (at < length code.now) × (shape_of opcode ≡ Ok shape) }
     ensures { result ≡ change_of (effect_of opcode (operand_in shape (drop at code.now))) }
 {
-    let fixed = effects::fixed(opcode);
+    let Ok(fixed) = effects::fixed(opcode) else {
+        return Effect { up: 0, down: 0 };
+    };
     match fixed {
-        Fixed::By { up, down } => Change { up, down },
-        Fixed::ByOperand => change_of(effects::by_numbers(
+        Some(effect) => effect,
+        None => change_of(effects::by_numbers(
             opcode,
             numbers::former(code, at, shape),
             numbers::last(code, at, shape),
         )),
-        Fixed::Refused(_) => Change { up: 0, down: 0 },
     }
 }
 
@@ -73,7 +73,7 @@ fn goal_at(code: &[u8], at: usize, next: usize, shape: Shape) -> Goal
 
 // How the instruction of a shape and a size at an offset moves on.
 fn flow_by(code: &[u8], at: usize, shape: Shape, size: usize) -> Flow
-    requires { (at < length code.now) × (shape_of (get_or code.now at 0) ≡ Is shape)
+    requires { (at < length code.now) × (shape_of (get_or code.now at 0) ≡ Ok shape)
         × (at + size ≤ length code.now) }
     ensures { result ≡ flow_by (at + size) (length code.now) (get_or code.now at 0)
         (operand_in shape (drop at code.now)) size }
@@ -93,28 +93,28 @@ fn flow_by(code: &[u8], at: usize, shape: Shape, size: usize) -> Flow
 }
 
 // The same, or 22 where it is cut short.
-fn shaped_flow(code: &[u8], at: usize, shape: Shape) -> Flowing
-    requires { (at < length code.now) × (shape_of (get_or code.now at 0) ≡ Is shape) }
+fn shaped_flow(code: &[u8], at: usize, shape: Shape) -> Result<Option<Flow>, Refusal>
+    requires { (at < length code.now) × (shape_of (get_or code.now at 0) ≡ Ok shape) }
     ensures { result ≡ flow_of last_opcode at (drop at code.now) }
 {
     let size = numbers::size(code, at, shape);
     if code.len() - at < size {
-        return Flowing::Refused(Refusal::CutShort(at));
+        return Err(Refusal::CutShort(at));
     }
-    Flowing::Op(flow_by(code, at, shape, size))
+    Ok(Some(flow_by(code, at, shape, size)))
 }
 
 // How the instruction at an offset moves on: whether it falls through, what that does to the depth, where it jumps
 // and what that does to the depth. End and refusals are the step's.
-pub fn flow_at(code: &[u8], at: usize) -> Flowing
+pub fn flow_at(code: &[u8], at: usize) -> Result<Option<Flow>, Refusal>
     ensures { result ≡ flow_of last_opcode at (drop at code.now) }
 {
     if code.len() <= at {
-        return Flowing::End;
+        return Ok(None);
     }
     let shaped = shapes::operand_shape(code[at]);
     match shaped {
-        Shaped::Is(shape) => shaped_flow(code, at, shape),
-        Shaped::Refused(_) => Flowing::Refused(Refusal::UnknownOpcodeAt(at)),
+        Ok(shape) => shaped_flow(code, at, shape),
+        Err(_) => Err(Refusal::UnknownOpcodeAt(at)),
     }
 }

@@ -3,7 +3,7 @@
 // and handlers.
 #![tactic(auto)]
 
-use op::{Operand, Refusal};
+use op::{Effect, Operand, Refusal};
 
 pub mod decoder;
 pub mod entries;
@@ -39,20 +39,16 @@ pub const NO_DEPTH: u32 = 65536;
 // The bytes of a jump.
 pub const JUMP_SIZE: usize = 3;
 
-// What stands at an offset of the code.
+// An instruction that stands in the code, of `size` bytes, keyword names included.
 #[derive(Clone, Copy)]
-pub enum Step {
-    // an instruction of `size` bytes, keyword names included
-    Instr {
-        opcode: u8,
-        operand: Operand,
-        size: usize,
-    },
-    // at or past the code's end
-    End,
-    // 1 or 22, with the offset
-    Refused(Refusal),
+pub struct Instr {
+    pub opcode: u8,
+    pub operand: Operand,
+    pub size: usize,
 }
+
+// What stands at an offset of the code: an instruction; nothing, at or past the code's end; 1 or 22, with the offset.
+pub type Step = Result<Option<Instr>, Refusal>;
 
 // Where a jump goes.
 #[derive(Clone, Copy)]
@@ -64,46 +60,24 @@ pub enum Goal {
     Outside,
 }
 
-// What is added to the depth, and what is taken away.
-#[derive(Clone, Copy)]
-pub struct Change {
-    pub up: u32,
-    pub down: u32,
-}
-
 // How the instruction at an offset moves on. In this order each field begins a word of eight bytes, so that no copy of a
 // flow reads a word across two stores, for which a processor waits.
 #[derive(Clone, Copy)]
 pub struct Flow {
     pub size: usize,
-    pub net: Change,
+    pub net: Effect,
     // of the taken jump; no change where it is none
-    pub taken: Change,
+    pub taken: Effect,
     pub goal: Goal,
     // whether it falls through
     pub falls: bool,
 }
 
-// The same, or why there is none.
+// A code that can't be read to its end: how many instructions stand before the fault, which is 1 or 22.
 #[derive(Clone, Copy)]
-pub enum Flowing {
-    Op(Flow),
-    End,
-    Refused(Refusal),
-}
-
-// How many instructions a code has, all of it or up to its first fault, which is 1 or 22.
-#[derive(Clone, Copy)]
-pub enum Count {
-    Whole(usize),
-    Stopped(usize, Refusal),
-}
-
-// How many bytes were written, or why none was.
-#[derive(Clone, Copy)]
-pub enum Written {
-    Size(usize),
-    Refused(Refusal),
+pub struct Stopped {
+    pub count: usize,
+    pub refusal: Refusal,
 }
 
 // A row of the location table: its six numbers, unread.
@@ -118,13 +92,6 @@ pub struct LocationRow {
     pub focus_end: u32,
 }
 
-// What `location_for_offset` finds: a row's number and the row.
-#[derive(Clone, Copy)]
-pub enum Located {
-    Row(usize, LocationRow),
-    Absent,
-}
-
 // A row of the exception table: its six numbers, unread.
 #[derive(Clone, Copy)]
 pub struct HandlerRow {
@@ -137,27 +104,6 @@ pub struct HandlerRow {
     pub kind: u32,
 }
 
-// What `find_exception_handler` finds: a row's number and the row.
-#[derive(Clone, Copy)]
-pub enum Handled {
-    Row(usize, HandlerRow),
-    Absent,
-}
-
-// A constant, unread.
-#[derive(Clone, Copy)]
-pub enum Constant {
-    Value(u64),
-    Absent,
-}
-
-// The name of a local slot, by its number.
-#[derive(Clone, Copy)]
-pub enum LocalName {
-    Name(u32),
-    Absent,
-}
-
 // A source range, unread.
 #[derive(Clone, Copy)]
 pub struct CodeRange {
@@ -165,19 +111,12 @@ pub struct CodeRange {
     pub end: u32,
 }
 
-// The part of a range that a traceback points at.
-#[derive(Clone, Copy)]
-pub enum Focus {
-    Absent,
-    Present(CodeRange),
-}
-
 // The source location of the instructions from an offset on.
 #[derive(Clone, Copy)]
 pub struct LocationEntry {
     pub bytecode_offset: u32,
     pub range: CodeRange,
-    pub focus: Focus,
+    pub focus: Option<CodeRange>,
 }
 
 // Whether a handler reads the exception value from the operand stack.
@@ -200,11 +139,4 @@ pub struct ExceptionEntry {
     // the frame's exception-stack depth at the region's entry
     pub exception_stack_count: u16,
     pub kind: HandlerKind,
-}
-
-// What a lookup over records finds: an entry's number and the entry.
-#[derive(Clone, Copy)]
-pub enum Found {
-    Row(usize, ExceptionEntry),
-    Absent,
 }

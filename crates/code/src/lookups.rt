@@ -6,9 +6,7 @@ ghost use Rattle.code.specs.Locations.{location_count, location_row};
 ghost use Rattle.code.specs.Lookups.{handler_row, first_greater, covers_of, covering, first_covering, location_of};
 ghost use Rattle.code.specs.Lookups.{handler_of, constant_of, local_name_of};
 
-use crate::{
-    Constant, EXCEPTION_CELLS, Handled, HandlerRow, LOCATION_CELLS, LocalName, Located, LocationRow,
-};
+use crate::{EXCEPTION_CELLS, HandlerRow, LOCATION_CELLS, LocationRow};
 
 const LARGEST_U32: usize = 4294967295;
 
@@ -62,17 +60,17 @@ fn first_greater(rows: &[u32], offset: usize) -> usize
 
 // The row before the first row whose offset is greater, or the last row if none is. A scan, and no binary search as
 // in the Rust, so that this holds of offsets in any order too.
-pub fn location_for_offset(rows: &[u32], offset: usize) -> Located
+pub fn location_for_offset(rows: &[u32], offset: usize) -> Option<(usize, LocationRow)>
     ensures { result ≡ location_of rows.now offset }
 {
     if LARGEST_U32 < offset {
-        return Located::Absent;
+        return None;
     }
     let after = first_greater(rows, offset);
     if after == 0 {
-        return Located::Absent;
+        return None;
     }
-    Located::Row(after - 1, location_row(rows, after - 1))
+    Some((after - 1, location_row(rows, after - 1)))
 }
 
 // A row of the exception table.
@@ -135,39 +133,39 @@ fn first_covering(rows: &[u32], offset: u32) -> usize
 }
 
 // The first row, in insertion order, with start <= offset < end.
-pub fn find_exception_handler(rows: &[u32], offset: u32) -> Handled
+pub fn find_exception_handler(rows: &[u32], offset: u32) -> Option<(usize, HandlerRow)>
     ensures { result ≡ handler_of rows.now offset }
 {
     let row = first_covering(rows, offset);
     if row < rows.len() / EXCEPTION_CELLS {
-        return Handled::Row(row, handler_row(rows, row));
+        return Some((row, handler_row(rows, row)));
     }
-    Handled::Absent
+    None
 }
 
 // The constant of that index.
-pub fn constant(constants: &[u64], index: usize) -> Constant
+pub fn constant(constants: &[u64], index: usize) -> Option<u64>
     ensures { result ≡ constant_of constants.now index }
 {
     if index < constants.len() {
-        return Constant::Value(constants[index]);
+        return Some(constants[index]);
     }
-    Constant::Absent
+    None
 }
 
 // The name of a local slot; a name's cell holds its number and 1.
-pub fn local_name(names: &[u64], slot: usize) -> LocalName
+pub fn local_name(names: &[u64], slot: usize) -> Option<u32>
     ensures { result ≡ local_name_of names.now slot }
 {
     if slot < names.len() {
         let held = names[slot];
         if held == 0 {
-            return LocalName::Absent;
+            return None;
         }
         if held <= 4294967296 {
-            return LocalName::Name((held - 1) as u32);
+            return Some((held - 1) as u32);
         }
-        return LocalName::Absent;
+        return None;
     }
-    LocalName::Absent
+    None
 }

@@ -2,15 +2,14 @@
 ghost use Rattle.std.specs.Prelude.{◌≡◌, ◌<◌, length, drop, get_or};
 ghost use Rattle.op.specs.Opcodes.{last_opcode};
 ghost use Rattle.op.specs.Shapes.{shape_of};
-ghost use Rattle.op.specs.declared.Shaped.TheVariants.{Is};
 ghost use Rattle.code.specs.Decode.{decode, size_in};
 
 use crate::numbers;
-use op::{Shape, Shaped, shapes};
+use op::{Shape, shapes};
 
 // The size of the instruction of a shape at an offset; 0 where it is cut short.
 fn size_by(code: &[u8], at: usize, shape: Shape) -> usize
-    requires { (at < length code.now) × (shape_of (get_or code.now at 0) ≡ Is shape) }
+    requires { (at < length code.now) × (shape_of (get_or code.now at 0) ≡ Ok shape) }
     ensures { result ≡ size_in (decode last_opcode at (drop at code.now)) }
 {
     let size = numbers::size(code, at, shape);
@@ -29,7 +28,7 @@ pub fn size_at(code: &[u8], at: usize) -> usize
     }
     let shaped = shapes::operand_shape(code[at]);
     match shaped {
-        Shaped::Is(shape) => size_by(code, at, shape),
-        Shaped::Refused(_) => 0,
+        Ok(shape) => size_by(code, at, shape),
+        Err(_) => 0,
     }
 }

@@ -3,7 +3,7 @@ ghost use Rattle.std.specs.Prelude.{◌≡◌, ◌+◌, ◌<◌, length};
 ghost use Rattle.code.specs.Bytes.{word_at};
 ghost use Rattle.code.specs.Decode.{step_in};
 
-use crate::{Step, signs};
+use crate::{Instr, Step, signs};
 use op::{Operand, Refusal, Shape};
 
 // A byte as a word.
@@ -35,11 +35,11 @@ fn none_step(bytes: &[u8], at: usize) -> Step
     requires { 0 < length bytes.now }
     ensures { result ≡ step_in at Shape.None bytes.now }
 {
-    Step::Instr {
+    Ok(Some(Instr {
         opcode: bytes[0],
         operand: Operand::None,
         size: 1,
-    }
+    }))
 }
 
 // U8: a byte.
@@ -48,14 +48,14 @@ fn u8_step(bytes: &[u8], at: usize) -> Step
     ensures { result ≡ step_in at Shape.U8 bytes.now }
 {
     if bytes.len() < 2 {
-        return Step::Refused(Refusal::CutShort(at));
+        return Err(Refusal::CutShort(at));
     }
     let operand = Operand::U8(bytes[1]);
-    Step::Instr {
+    Ok(Some(Instr {
         opcode: bytes[0],
         operand,
         size: 2,
-    }
+    }))
 }
 
 // I8: a byte with a sign.
@@ -64,14 +64,14 @@ fn i8_step(bytes: &[u8], at: usize) -> Step
     ensures { result ≡ step_in at Shape.I8 bytes.now }
 {
     if bytes.len() < 2 {
-        return Step::Refused(Refusal::CutShort(at));
+        return Err(Refusal::CutShort(at));
     }
     let operand = Operand::I8(signs::to_i8(bytes[1]));
-    Step::Instr {
+    Ok(Some(Instr {
         opcode: bytes[0],
         operand,
         size: 2,
-    }
+    }))
 }
 
 // U16: a word.
@@ -80,14 +80,14 @@ fn u16_step(bytes: &[u8], at: usize) -> Step
     ensures { result ≡ step_in at Shape.U16 bytes.now }
 {
     if bytes.len() < 3 {
-        return Step::Refused(Refusal::CutShort(at));
+        return Err(Refusal::CutShort(at));
     }
     let operand = Operand::U16(word_at(bytes, 1));
-    Step::Instr {
+    Ok(Some(Instr {
         opcode: bytes[0],
         operand,
         size: 3,
-    }
+    }))
 }
 
 // Offset: a word with a sign.
@@ -96,14 +96,14 @@ fn offset_step(bytes: &[u8], at: usize) -> Step
     ensures { result ≡ step_in at Shape.Offset bytes.now }
 {
     if bytes.len() < 3 {
-        return Step::Refused(Refusal::CutShort(at));
+        return Err(Refusal::CutShort(at));
     }
     let operand = Operand::Offset(signs::to_i16(word_at(bytes, 1)));
-    Step::Instr {
+    Ok(Some(Instr {
         opcode: bytes[0],
         operand,
         size: 3,
-    }
+    }))
 }
 
 // U8U8: two bytes.
@@ -112,14 +112,14 @@ fn u8_u8_step(bytes: &[u8], at: usize) -> Step
     ensures { result ≡ step_in at Shape.U8U8 bytes.now }
 {
     if bytes.len() < 3 {
-        return Step::Refused(Refusal::CutShort(at));
+        return Err(Refusal::CutShort(at));
     }
     let operand = Operand::U8U8(bytes[1], bytes[2]);
-    Step::Instr {
+    Ok(Some(Instr {
         opcode: bytes[0],
         operand,
         size: 3,
-    }
+    }))
 }
 
 // U16U8: a word and a byte.
@@ -128,14 +128,14 @@ fn u16_u8_step(bytes: &[u8], at: usize) -> Step
     ensures { result ≡ step_in at Shape.U16U8 bytes.now }
 {
     if bytes.len() < 4 {
-        return Step::Refused(Refusal::CutShort(at));
+        return Err(Refusal::CutShort(at));
     }
     let operand = Operand::U16U8(word_at(bytes, 1), bytes[3]);
-    Step::Instr {
+    Ok(Some(Instr {
         opcode: bytes[0],
         operand,
         size: 4,
-    }
+    }))
 }
 
 // U16U16: two words.
@@ -144,14 +144,14 @@ fn u16_u16_step(bytes: &[u8], at: usize) -> Step
     ensures { result ≡ step_in at Shape.U16U16 bytes.now }
 {
     if bytes.len() < 5 {
-        return Step::Refused(Refusal::CutShort(at));
+        return Err(Refusal::CutShort(at));
     }
     let operand = Operand::U16U16(word_at(bytes, 1), word_at(bytes, 3));
-    Step::Instr {
+    Ok(Some(Instr {
         opcode: bytes[0],
         operand,
         size: 5,
-    }
+    }))
 }
 
 // U16U8U8: a word and two bytes.
@@ -160,14 +160,14 @@ fn u16_u8_u8_step(bytes: &[u8], at: usize) -> Step
     ensures { result ≡ step_in at Shape.U16U8U8 bytes.now }
 {
     if bytes.len() < 5 {
-        return Step::Refused(Refusal::CutShort(at));
+        return Err(Refusal::CutShort(at));
     }
     let operand = Operand::U16U8U8(word_at(bytes, 1), bytes[3], bytes[4]);
-    Step::Instr {
+    Ok(Some(Instr {
         opcode: bytes[0],
         operand,
         size: 5,
-    }
+    }))
 }
 
 // CallKw: positional count, n, names.
@@ -176,22 +176,22 @@ fn call_kw_step(bytes: &[u8], at: usize) -> Step
     ensures { result ≡ step_in at Shape.CallKw bytes.now }
 {
     if bytes.len() < 3 {
-        return Step::Refused(Refusal::CutShort(at));
+        return Err(Refusal::CutShort(at));
     }
     let n = bytes[2];
     let size = 3 + 2 * long(n);
     if bytes.len() < size {
-        return Step::Refused(Refusal::CutShort(at));
+        return Err(Refusal::CutShort(at));
     }
     let operand = Operand::CallKw {
         positional: bytes[1],
         names: n,
     };
-    Step::Instr {
+    Ok(Some(Instr {
         opcode: bytes[0],
         operand,
         size,
-    }
+    }))
 }
 
 // CallAttrKw: attribute, positional count, n, names.
@@ -200,23 +200,23 @@ fn call_attr_kw_step(bytes: &[u8], at: usize) -> Step
     ensures { result ≡ step_in at Shape.CallAttrKw bytes.now }
 {
     if bytes.len() < 5 {
-        return Step::Refused(Refusal::CutShort(at));
+        return Err(Refusal::CutShort(at));
     }
     let n = bytes[4];
     let size = 5 + 2 * long(n);
     if bytes.len() < size {
-        return Step::Refused(Refusal::CutShort(at));
+        return Err(Refusal::CutShort(at));
     }
     let operand = Operand::CallAttrKw {
         attribute: word_at(bytes, 1),
         positional: bytes[3],
         names: n,
     };
-    Step::Instr {
+    Ok(Some(Instr {
         opcode: bytes[0],
         operand,
         size,
-    }
+    }))
 }
 
 // U16U16U8: two words and a byte.
@@ -225,14 +225,14 @@ fn u16_u16_u8_step(bytes: &[u8], at: usize) -> Step
     ensures { result ≡ step_in at Shape.U16U16U8 bytes.now }
 {
     if bytes.len() < 6 {
-        return Step::Refused(Refusal::CutShort(at));
+        return Err(Refusal::CutShort(at));
     }
     let operand = Operand::U16U16U8(word_at(bytes, 1), word_at(bytes, 3), bytes[5]);
-    Step::Instr {
+    Ok(Some(Instr {
         opcode: bytes[0],
         operand,
         size: 6,
-    }
+    }))
 }
 
 // The instruction of a shape at the front of `bytes`, which stand at `at`: 22 where it is cut short.

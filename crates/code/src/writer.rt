@@ -4,8 +4,8 @@ ghost use Rattle.code.specs.Bytes.{front, word_bytes, names_bytes};
 ghost use Rattle.code.specs.Encode.{encode, written_of, Writes};
 ghost use Rattle.code.specs.Inner.{Writable};
 
-use crate::{Written, decoder, signs, store};
-use op::{Operand, Refusal, Shaped, Table, shapes};
+use crate::{decoder, signs, store};
+use op::{Operand, Refusal, Table, shapes};
 
 // A word's low byte.
 fn low(w: u16) -> u8
@@ -92,39 +92,39 @@ fn fill(out: &mut [u8], opcode: u8, operand: Operand, names: &[u16])
 }
 
 // The answer: 1, 7, 2, then 18 where the room is less than the size.
-fn decide(opcode: u8, operand: Operand, names: usize, room: usize) -> Written
+fn decide(opcode: u8, operand: Operand, names: usize, room: usize) -> Result<usize, Refusal>
     ensures { result ≡ written_of opcode operand names room }
 {
     let shaped = shapes::operand_shape(opcode);
-    let Shaped::Is(shape) = shaped else {
-        return Written::Refused(Refusal::UnknownOpcode);
+    let Ok(shape) = shaped else {
+        return Err(Refusal::UnknownOpcode);
     };
     if 255 < names {
-        return Written::Refused(Refusal::TooManyKeywords);
+        return Err(Refusal::TooManyKeywords);
     }
     if shapes::number(shape) != shapes::number(shapes::of_operand(operand)) {
-        return Written::Refused(Refusal::WrongShape);
+        return Err(Refusal::WrongShape);
     }
     if decoder::names_of(operand) != names {
-        return Written::Refused(Refusal::WrongShape);
+        return Err(Refusal::WrongShape);
     }
     let size = shapes::instruction_size(shape, names as u8);
     if room < size {
-        return Written::Refused(Refusal::Full(Table::Code));
+        return Err(Refusal::Full(Table::Code));
     }
-    Written::Size(size)
+    Ok(size)
 }
 
 // Writes an instruction at the front of `out`, and answers its size. A refusal changes nothing.
-pub fn write(out: &mut [u8], opcode: u8, operand: Operand, names: &[u16]) -> Written
+pub fn write(out: &mut [u8], opcode: u8, operand: Operand, names: &[u16]) -> Result<usize, Refusal>
     ensures { Writes opcode operand names.now out.old result out.new }
 {
     let answer = decide(opcode, operand, names.len(), out.len());
     match answer {
-        Written::Size(size) => {
+        Ok(size) => {
             fill(out, opcode, operand, names);
-            Written::Size(size)
+            Ok(size)
         }
-        Written::Refused(refusal) => Written::Refused(refusal),
+        Err(refusal) => Err(refusal),
     }
 }

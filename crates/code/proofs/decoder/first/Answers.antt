@@ -7,9 +7,9 @@ use Rattle.code.proofs.decoder.first.Goals as goal
 pub returns-in_default : goal.returns-in_default
 returns-in_default c =
     decode_unknown _ c.args.at c.args.bytes.now c.requires _
-    (shape_last _ ∙ sym c.operand_shape-shaped.ensures ∙ c.in_default.is)
+    (shape_last _ ∙ sym c.operand_shape.ensures ∙ c.in_default.is)
 
 pub returns : goal.returns
 returns c =
     c.shaped_step.ensures ∙ decode_shaped _ c.args.at c.args.bytes.now c.requires _
-    (shape_last _ ∙ sym c.operand_shape-shaped.ensures ∙ c.in-Is.is)
+    (shape_last _ ∙ sym c.operand_shape.ensures ∙ c.in-Ok.is)

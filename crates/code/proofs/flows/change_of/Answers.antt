@@ -2,8 +2,8 @@
 -- Assumes nothing.
 use Rattle.code.proofs.flows.change_of.Goals as goal
 
-pub returns-in-By : goal.returns-in-By
-returns-in-By c = rw c.in-By.is
+pub returns-in-Ok : goal.returns-in-Ok
+returns-in-Ok c = rw c.in-Ok.is
 
-pub returns-in-Refused : goal.returns-in-Refused
-returns-in-Refused c = rw c.in-Refused.is
+pub returns-in-Err : goal.returns-in-Err
+returns-in-Err c = rw c.in-Err.is

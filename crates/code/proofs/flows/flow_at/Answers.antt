@@ -12,10 +12,10 @@ returns-then-code-at c =
     (decode_past _ c.args.at c.args.code.now c.if-code-at.true)
 
 pub shaped_flow-requires : goal.shaped_flow-requires
-shaped_flow-requires c = (c.if-code-at.false, sym c.operand_shape-shaped.ensures ∙ c.in-Is.is)
+shaped_flow-requires c = (c.if-code-at.false, sym c.operand_shape-shaped.ensures ∙ c.in-Ok.is)
 
-pub returns-in-Refused : goal.returns-in-Refused
-returns-in-Refused c =
+pub returns-in-Err : goal.returns-in-Err
+returns-in-Err c =
     flow_refused _ c.args.at c.args.code.now _
     (at_unknown c.args.code.now c.args.at c.if-code-at.false
-    (sym c.operand_shape-shaped.ensures ∙ c.in-Refused.is))
+    (sym c.operand_shape-shaped.ensures ∙ c.in-Err.is))

@@ -1,6 +1,7 @@
 -- `code::lookups::location_for_offset` meets its contract: the scan's answer is at most the number of rows, and the
 -- row before it is answered.
 -- Assumes nothing.
+use Rattle.std.specs.Prelude.{Some}
 use Prim.Native.Nat.{ℕ, zero, suc, ◌-◌, ◌≤◌}
 use borrow.Author.Tests.{lt-ltb, le-ltb}
 use mathlib.Core.List.{List}
@@ -8,7 +9,6 @@ use mathlib.Core.Path.{◌≡◌, refl}
 use native.Mathlib.Omega.{arith}
 use Rattle.code.specs.Locations.{location_count, location_row}
 use Rattle.code.specs.Lookups.{greater, first_greater, row_before, location_of}
-use Rattle.code.specs.declared.Located.TheVariants.{Row}
 use Rattle.code.proofs.First.{is_first}
 use Rattle.code.proofs.lookups.location_for_offset.Goals as goal
 
@@ -16,7 +16,7 @@ greater_inside : (cells : List ℕ) (x : ℕ) → first_greater cells x ≤ loca
 unfolding first_greater
 greater_inside cells x = (is_first (greater cells x) (location_count cells)).inside
 
-before_is : (cells : List ℕ) (n : ℕ) → (n ≡ 0 → ⊥) → row_before cells n ≡ Row (n - 1) (location_row cells (n - 1))
+before_is : (cells : List ℕ) (n : ℕ) → (n ≡ 0 → ⊥) → row_before cells n ≡ Some ((n - 1), (location_row cells (n - 1)))
 before_is cells zero some = absurd (some refl)
 before_is cells (suc i) some = let e : suc i - 1 ≡ i = omega arith in rw e
 
