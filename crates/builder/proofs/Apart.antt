@@ -1,5 +1,6 @@
 -- Numbers tell the builder's answers apart: each refusal is found again by its number and what it names.
 -- Assumes nothing.
+use Rattle.std.specs.Prelude.{Ok, Err, Some, None}
 use mathlib.Core.Path.{◌≡◌, refl, sym, ap, ◌∙◌}
 use mathlib.Core.List.{List, [], ◌∷◌}
 use Prim.Native.Nat.{ℕ}
@@ -10,15 +11,10 @@ use Rattle.op.specs.declared.Refusal.{Refusal}
 use Rattle.op.specs.declared.Refusal.TheVariants as R
 use Rattle.op.specs.declared.Table.{Table}
 use Rattle.op.specs.declared.Table.TheVariants as T
-use Rattle.builder.specs.declared.Added.TheVariants as N
-use Rattle.builder.specs.declared.Answer.TheVariants as A
-use Rattle.builder.specs.declared.Depth.TheVariants as D
 use Rattle.builder.specs.declared.JumpLabel.{JumpLabel}
 use Rattle.builder.specs.declared.JumpLabel.TheVariants as L
 use Rattle.builder.specs.declared.JumpTarget.{JumpTarget}
 use Rattle.builder.specs.declared.JumpTarget.TheVariants as M
-use Rattle.builder.specs.declared.Jumped.TheVariants as J
-use Rattle.builder.specs.declared.Targeted.TheVariants as G
 use Rattle.builder.specs.Answers.{label_number, refusal_told, target_number}
 use Rattle.builder.specs.Apart.{AddedApart, AnswersApart, DepthsApart, JumpedApart, LabelExact, RefusalExact}
 use Rattle.builder.specs.Apart.{TargetExact, TargetedApart}
@@ -86,10 +82,10 @@ refusals_apart r s hr hs e =
     sym (refusal_back r hr) ∙ same ∙ refusal_back s hs
 
 pub depths_apart : DepthsApart
-depths_apart D.Dead D.Dead hx hy e = refl
-depths_apart D.Dead (D.Live d) hx hy e = absurd (omega arith)
-depths_apart (D.Live d) D.Dead hx hy e = absurd (omega arith)
-depths_apart (D.Live d) (D.Live d') hx hy e = ap D.Live e
+depths_apart None None hx hy e = refl
+depths_apart None (Some d) hx hy e = absurd (omega arith)
+depths_apart (Some d) None hx hy e = absurd (omega arith)
+depths_apart (Some d) (Some d') hx hy e = ap Some e
 
 labels_apart : (x y : JumpLabel) → LabelExact x → LabelExact y → label_number x ≡ label_number y → x ≡ y
 labels_apart L.Dead L.Dead hx hy e = refl
@@ -104,29 +100,29 @@ targets_apart (M.Row i) M.Dead hx hy e = absurd (omega arith)
 targets_apart (M.Row i) (M.Row j) hx hy e = ap M.Row e
 
 pub answers_apart : AnswersApart
-answers_apart (A.Accepted b) (A.Accepted b') hx hy e = cc
-answers_apart (A.Accepted b) (A.Refused r) hx hy e = absurd (let z : ◌≡◌ {A = ℕ} 0 1 = cc in omega arith)
-answers_apart (A.Refused r) (A.Accepted b) hx hy e = absurd (let z : ◌≡◌ {A = ℕ} 0 1 = cc in omega arith)
-answers_apart (A.Refused r) (A.Refused s) hx hy e = ap A.Refused (refusals_apart r s hx hy e)
+answers_apart (Ok b) (Ok b') hx hy e = cc
+answers_apart (Ok b) (Err r) hx hy e = absurd (let z : ◌≡◌ {A = ℕ} 0 1 = cc in omega arith)
+answers_apart (Err r) (Ok b) hx hy e = absurd (let z : ◌≡◌ {A = ℕ} 0 1 = cc in omega arith)
+answers_apart (Err r) (Err s) hx hy e = ap Err (refusals_apart r s hx hy e)
 
 pub jumped_apart : JumpedApart
-jumped_apart (J.Made b l) (J.Made b' l') hx hy e =
+jumped_apart (Ok (b, l)) (Ok (b', l')) hx hy e =
     let same : l ≡ l' = labels_apart l l' hx hy cc in
     cc
-jumped_apart (J.Made b l) (J.Refused r) hx hy e = absurd (let z : ◌≡◌ {A = ℕ} 0 1 = cc in omega arith)
-jumped_apart (J.Refused r) (J.Made b l) hx hy e = absurd (let z : ◌≡◌ {A = ℕ} 0 1 = cc in omega arith)
-jumped_apart (J.Refused r) (J.Refused s) hx hy e = ap J.Refused (refusals_apart r s hx hy e)
+jumped_apart (Ok (b, l)) (Err r) hx hy e = absurd (let z : ◌≡◌ {A = ℕ} 0 1 = cc in omega arith)
+jumped_apart (Err r) (Ok (b, l)) hx hy e = absurd (let z : ◌≡◌ {A = ℕ} 0 1 = cc in omega arith)
+jumped_apart (Err r) (Err s) hx hy e = ap Err (refusals_apart r s hx hy e)
 
 pub targeted_apart : TargetedApart
-targeted_apart (G.Made b t) (G.Made b' t') hx hy e =
+targeted_apart (Ok (b, t)) (Ok (b', t')) hx hy e =
     let same : t ≡ t' = targets_apart t t' hx hy cc in
     cc
-targeted_apart (G.Made b t) (G.Refused r) hx hy e = absurd (let z : ◌≡◌ {A = ℕ} 0 1 = cc in omega arith)
-targeted_apart (G.Refused r) (G.Made b t) hx hy e = absurd (let z : ◌≡◌ {A = ℕ} 0 1 = cc in omega arith)
-targeted_apart (G.Refused r) (G.Refused s) hx hy e = ap G.Refused (refusals_apart r s hx hy e)
+targeted_apart (Ok (b, t)) (Err r) hx hy e = absurd (let z : ◌≡◌ {A = ℕ} 0 1 = cc in omega arith)
+targeted_apart (Err r) (Ok (b, t)) hx hy e = absurd (let z : ◌≡◌ {A = ℕ} 0 1 = cc in omega arith)
+targeted_apart (Err r) (Err s) hx hy e = ap Err (refusals_apart r s hx hy e)
 
 pub added_apart : AddedApart
-added_apart (N.Made b i) (N.Made b' i') hx hy e = cc
-added_apart (N.Made b i) (N.Refused r) hx hy e = absurd (let z : ◌≡◌ {A = ℕ} 0 1 = cc in omega arith)
-added_apart (N.Refused r) (N.Made b i) hx hy e = absurd (let z : ◌≡◌ {A = ℕ} 0 1 = cc in omega arith)
-added_apart (N.Refused r) (N.Refused s) hx hy e = ap N.Refused (refusals_apart r s hx hy e)
+added_apart (Ok (b, i)) (Ok (b', i')) hx hy e = cc
+added_apart (Ok (b, i)) (Err r) hx hy e = absurd (let z : ◌≡◌ {A = ℕ} 0 1 = cc in omega arith)
+added_apart (Err r) (Ok (b, i)) hx hy e = absurd (let z : ◌≡◌ {A = ℕ} 0 1 = cc in omega arith)
+added_apart (Err r) (Err s) hx hy e = ap Err (refusals_apart r s hx hy e)

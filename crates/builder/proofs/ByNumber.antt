@@ -1,5 +1,7 @@
 -- Each number of `emit_numbered` is the call that it stands for.
 -- Assumes nothing.
+use Rattle.builder.specs.declared.numbered.Instruction.{Instruction}
+use Rattle.std.specs.Prelude.{Err, Some, None, Option}
 use mathlib.Core.Path.{◌≡◌, refl, sym}
 use mathlib.Core.List.{List}
 use Prim.Native.Nat.{ℕ, ◌%◌, ◌≤◌, ◌<◌}
@@ -7,37 +9,34 @@ use lib.ListN.{get_or-eq_default, length}
 use borrow.Author.Tests.{lt-ltb, le-ltb}
 use Rattle.op.specs.declared.Operand.{Operand}
 use Rattle.op.specs.declared.Refusal.TheVariants.{WrongShape}
-use Rattle.builder.specs.declared.Answer.TheVariants.{Refused}
 use Rattle.builder.specs.declared.Builder.{Builder}
-use Rattle.builder.specs.declared.numbered.Instruction.{Instruction}
-use Rattle.builder.specs.declared.numbered.Instruction.TheVariants.{Is, Nothing}
 use Rattle.builder.specs.ByNumber.{NumbersAreCalls}
 use Rattle.builder.specs.Emission.{Outcome, emit_named, outcome}
 use Rattle.builder.specs.Numbered.{below, instruction_of, instructions, numbered_of}
 
 -- a number that fits its field, and one that doesn't
 
-pub fits : (m x : ℕ) (i : Instruction) → x < m → i ≡ below m x i
+pub fits : (m x : ℕ) (i : Option Instruction) → x < m → i ≡ below m x i
 fits m x i h = simp (lt-ltb x m h)
 
-pub wide : (m x : ℕ) (i : Instruction) → m ≤ x → Nothing ≡ below m x i
+pub wide : (m x : ℕ) (i : Option Instruction) → m ≤ x → None ≡ below m x i
 wide m x i h = simp (le-ltb x m h)
 
 -- a call past the last
-pub no_call : (call k a b c names : ℕ) → 17 ≤ call → Nothing ≡ instruction_of call k a b c names
+pub no_call : (call k a b c names : ℕ) → 17 ≤ call → None ≡ instruction_of call k a b c names
 unfolding instruction_of
-no_call call k a b c names h = sym (get_or-eq_default (instructions k a b c names) Nothing {n = call} h)
+no_call call k a b c names h = sym (get_or-eq_default (instructions k a b c names) None {n = call} h)
 
 -- what `emit_numbered` comes to, once the instruction is known
 
-module _ (builder : Builder) (call k a b c n : ℕ) (names code locations : List ℕ) (i : Instruction)
+module _ (builder : Builder) (call k a b c n : ℕ) (names code locations : List ℕ) (i : Option Instruction)
     (is : i ≡ instruction_of call k a b c n) (counted : n ≡ length names % 256) where
-  pub numbered_none : i ≡ Nothing
-      → outcome (Refused WrongShape) code locations ≡ numbered_of builder call k a b c names code locations
+  pub numbered_none : i ≡ None
+      → outcome (Err WrongShape) code locations ≡ numbered_of builder call k a b c names code locations
   unfolding numbered_of
   numbered_none e = rw (← counted, ← is, e) refl
 
-  pub numbered_goes : (opcode name : ℕ) (operand : Operand) (x : Outcome) → i ≡ Is opcode name operand
+  pub numbered_goes : (opcode name : ℕ) (operand : Operand) (x : Outcome) → i ≡ Some (record { opcode = opcode; name = name; operand = operand })
       → x ≡ emit_named builder opcode name operand names code locations
       → x ≡ numbered_of builder call k a b c names code locations
   unfolding numbered_of

@@ -1,5 +1,9 @@
 -- What is recorded is found: an emission keeps the location rows behind the code's end, and its own location is found.
 -- Assumes nothing.
+use Rattle.builder.specs.Plan.{planned}
+use Rattle.builder.specs.Plan.{Decision}
+use Rattle.builder.specs.declared.Location.{Location}
+use Rattle.std.specs.Prelude.{Ok, Err, Some, None, Option}
 use mathlib.Core.Path.{◌≡◌, refl, ap, sym, subst, ◌∙◌}
 use mathlib.Core.Bool.{true}
 use mathlib.Core.List.{List}
@@ -16,19 +20,11 @@ use Rattle.code.specs.Tables.{code_limit, location_cells}
 use Rattle.code.specs.Locations.{location_at, location_numbers, location_row, push_location, used_locations}
 use Rattle.code.specs.Lookups.{location_of}
 use Rattle.code.specs.declared.CodeRange.{CodeRange}
-use Rattle.code.specs.declared.Focus.{Focus}
-use Rattle.code.specs.declared.Located.TheVariants.{Row}
 use Rattle.code.specs.declared.LocationRow.{LocationRow}
 use Rattle.code.proofs.Putting.{take_put}
 use Rattle.code.proofs.Recorded.{pushed_row, recorded_is_found}
-use Rattle.builder.specs.declared.Answer.TheVariants.{Accepted}
 use Rattle.builder.specs.declared.Builder.{Builder}
 use Rattle.builder.specs.declared.Core.{Core}
-use Rattle.builder.specs.declared.Depth.TheVariants.{Dead, Live}
-use Rattle.builder.specs.declared.Location.{Location}
-use Rattle.builder.specs.declared.Location.TheVariants.{Unset, Set}
-use Rattle.builder.specs.declared.plan.Plan.{Plan}
-use Rattle.builder.specs.declared.plan.Plan.TheVariants.{Idle, Refuse, Go}
 use Rattle.builder.specs.State.{with_core}
 use Rattle.builder.specs.Locations.{locations_after, row_fits, rows_after}
 use Rattle.builder.specs.Plan.{plain_asked, plan_of}
@@ -64,28 +60,28 @@ module _ (locations : List ℕ) (rows : ℕ) (row : LocationRow)
 -- the location of an instruction
 
 module _ (core : Core) (locations : List ℕ) (before : Behind core locations) where
-  stays : (location : Location) (size : ℕ) → row_fits location core.locations (length locations) ≡ true
+  stays : (location : Option Location) (size : ℕ) → row_fits location core.locations (length locations) ≡ true
       → (i : ℕ) → i < rows_after location core.locations
       → (location_row (locations_after location core.locations core.code locations) i).offset ≤ core.code + size
-  stays Unset size has i lt = omega (arith, before i lt)
-  stays (Set range focus) size has i lt =
+  stays None size has i lt = omega (arith, before i lt)
+  stays (Some set) size has i lt =
       let free : core.locations < length locations / location_cells = ltb-true _ _ has in
       omega (
         arith,
-        pushed_behind locations core.locations (location_at core.code range focus) (omega arith) before i lt,
+        pushed_behind locations core.locations (location_at core.code set.range set.focus) (omega arith) before i lt,
       )
 
-  found : (location : Location) (range : CodeRange) (focus : Focus) → location ≡ Set range focus
+  found : (location : Option Location) (range : CodeRange) (focus : Option CodeRange) → location ≡ Some (record { range = range; focus = focus })
       → core.code ≤ code_limit → row_fits location core.locations (length locations) ≡ true
       → location_of (used_locations (rows_after location core.locations)
       (locations_after location core.locations core.code locations)) core.code
-      ≡ Row core.locations (location_at core.code range focus)
+      ≡ Some (core.locations, (location_at core.code range focus))
   found location range focus e small =
       subst
-      (λ (l : Location). row_fits l core.locations (length locations) ≡ true
+      (λ (l : Option Location). row_fits l core.locations (length locations) ≡ true
       → location_of (used_locations (rows_after l core.locations)
       (locations_after l core.locations core.code locations)) core.code
-      ≡ Row core.locations (location_at core.code range focus))
+      ≡ Some (core.locations, (location_at core.code range focus)))
       (sym e)
       (λ has. recorded_is_found locations core.locations (location_at core.code range focus) has (omega arith)
       before)
@@ -93,36 +89,42 @@ module _ (core : Core) (locations : List ℕ) (before : Behind core locations) w
 -- an emission
 
 module _ (b next : Builder) (k name : ℕ) (o : Operand) (ns code locs : List ℕ) (before : Behind b.core locs) where
-  stays_by : (p : Plan) → plan_of b.core b.location k name o (length ns) (length code) (length locs) ≡ p
-      → (outcome_by b (commit_of p b.core b.location (encode k o ns) code locs)).answer ≡ Accepted next
+  stays_by : (p : Decision) → plan_of b.core b.location k name o (length ns) (length code) (length locs) ≡ p
+      → (outcome_by b (commit_of p b.core b.location (encode k o ns) code locs)).answer ≡ Ok next
       → Behind next.core (commit_of p b.core b.location (encode k o ns) code locs).locations
-  stays_by Idle e a =
+  stays_by (Ok None) e a =
       let same : with_core b b.core ≡ next = cc in
       subst (λ (n : Builder). Behind n.core locs) same before
-  stays_by (Refuse r) e a = clash cc
-  stays_by (Go d w s) e a =
+  stays_by (Err r) e a = clash cc
+  stays_by (Ok (Some plan)) e a =
+      let d = plan.after in
+      let w = plan.word in
+      let s = plan.size in
       let g = goes b.core b.location k name o (length ns) (length code) (length locs) s w d e in
       let same : with_core b (core_after b.core b.location s d) ≡ next = cc in
       subst
       (λ (n : Builder). Behind n.core (locations_after b.location b.core.locations b.core.code locs)) same
       (stays b.core locs before b.location s g.row)
 
-  idle_dead : plan_of b.core b.location k name o (length ns) (length code) (length locs) ≡ Idle
-      → b.core.depth ≡ Dead
+  idle_dead : plan_of b.core b.location k name o (length ns) (length code) (length locs) ≡ (Ok None)
+      → b.core.depth ≡ None
   unfolding plan_of
   idle_dead e = line_idle (plain_asked b.core b.location k name o (length ns) (length code) (length locs)) e
 
-  module _ (here : ℕ) (range : CodeRange) (focus : Focus) (live : b.core.depth ≡ Live here)
-      (is : b.location ≡ Set range focus) where
-    found_by : (p : Plan) → plan_of b.core b.location k name o (length ns) (length code) (length locs) ≡ p
-        → (outcome_by b (commit_of p b.core b.location (encode k o ns) code locs)).answer ≡ Accepted next
+  module _ (here : ℕ) (range : CodeRange) (focus : Option CodeRange) (live : b.core.depth ≡ Some here)
+      (is : b.location ≡ Some (record { range = range; focus = focus })) where
+    found_by : (p : Decision) → plan_of b.core b.location k name o (length ns) (length code) (length locs) ≡ p
+        → (outcome_by b (commit_of p b.core b.location (encode k o ns) code locs)).answer ≡ Ok next
         → Finds b.core next.core range focus
         (commit_of p b.core b.location (encode k o ns) code locs).locations
-    found_by Idle e a =
+    found_by (Ok None) e a =
         let dead = idle_dead e in
         clash cc
-    found_by (Refuse r) e a = clash cc
-    found_by (Go d w s) e a =
+    found_by (Err r) e a = clash cc
+    found_by (Ok (Some plan)) e a =
+        let d = plan.after in
+        let w = plan.word in
+        let s = plan.size in
         let g = goes b.core b.location k name o (length ns) (length code) (length locs) s w d e in
         let same : with_core b (core_after b.core b.location s d) ≡ next = cc in
         subst

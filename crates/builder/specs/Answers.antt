@@ -1,32 +1,22 @@
 -- The builder's answers by number: for each case the refusal's number and what it names, or the value and the state.
 -- Assumes nothing.
-use Rattle.std.specs.Prelude.{ℕ}
+use Rattle.std.specs.Prelude.{ℕ, Ok, Err, Some, None, Result, Option}
 use Rattle.op.specs.Refusals.{named_of, number_of}
 use Rattle.op.specs.declared.Refusal.{Refusal}
-use Rattle.builder.specs.declared.Added.{Added}
-use Rattle.builder.specs.declared.Added.TheVariants as N
-use Rattle.builder.specs.declared.Answer.{Answer}
-use Rattle.builder.specs.declared.Answer.TheVariants as A
 use Rattle.builder.specs.declared.Builder.{Builder}
-use Rattle.builder.specs.declared.Depth.{Depth}
-use Rattle.builder.specs.declared.Depth.TheVariants.{Dead, Live}
 use Rattle.builder.specs.declared.JumpLabel.{JumpLabel}
 use Rattle.builder.specs.declared.JumpLabel.TheVariants as L
 use Rattle.builder.specs.declared.JumpTarget.{JumpTarget}
 use Rattle.builder.specs.declared.JumpTarget.TheVariants as T
-use Rattle.builder.specs.declared.Jumped.{Jumped}
-use Rattle.builder.specs.declared.Jumped.TheVariants as J
-use Rattle.builder.specs.declared.Targeted.{Targeted}
-use Rattle.builder.specs.declared.Targeted.TheVariants as G
 
 -- a depth: 65,536 is past the greatest
 abbrev pub dead_depth : ℕ
 dead_depth = 65536
 
 -- R63
-abbrev pub depth_number : Depth → ℕ
-depth_number Dead = dead_depth
-depth_number (Live depth) = depth
+abbrev pub depth_number : Option ℕ → ℕ
+depth_number None = dead_depth
+depth_number (Some depth) = depth
 
 -- a label or a target: its row, or the greatest number of 64 bits
 abbrev pub dead_row : ℕ
@@ -50,19 +40,19 @@ abbrev pub refusal_told : Refusal → Told
 refusal_told refusal = Refuses (number_of refusal) (named_of refusal)
 
 -- a call that answers nothing but a state has the value 0
-abbrev pub answer_told : Answer → Told
-answer_told (A.Accepted after) = Accepts 0 after
-answer_told (A.Refused refusal) = refusal_told refusal
+abbrev pub answer_told : Result Builder Refusal → Told
+answer_told (Ok after) = Accepts 0 after
+answer_told (Err refusal) = refusal_told refusal
 
-abbrev pub jumped_told : Jumped → Told
-jumped_told (J.Made after label) = Accepts (label_number label) after
-jumped_told (J.Refused refusal) = refusal_told refusal
+abbrev pub jumped_told : Result (Builder × JumpLabel) Refusal → Told
+jumped_told (Ok (after, label)) = Accepts (label_number label) after
+jumped_told (Err refusal) = refusal_told refusal
 
-abbrev pub targeted_told : Targeted → Told
-targeted_told (G.Made after target) = Accepts (target_number target) after
-targeted_told (G.Refused refusal) = refusal_told refusal
+abbrev pub targeted_told : Result (Builder × JumpTarget) Refusal → Told
+targeted_told (Ok (after, target)) = Accepts (target_number target) after
+targeted_told (Err refusal) = refusal_told refusal
 
 -- the constant's index
-abbrev pub added_told : Added → Told
-added_told (N.Made after index) = Accepts index after
-added_told (N.Refused refusal) = refusal_told refusal
+abbrev pub added_told : Result (Builder × ℕ) Refusal → Told
+added_told (Ok (after, index)) = Accepts index after
+added_told (Err refusal) = refusal_told refusal

@@ -1,6 +1,8 @@
 -- The model of `emit_jump_to`.
 -- Assumes nothing.
-use Rattle.std.specs.Prelude.{List, [], ℕ, length}
+use Rattle.builder.specs.Plan.{Decision}
+use Rattle.builder.specs.declared.Location.{Location}
+use Rattle.std.specs.Prelude.{List, [], ℕ, length, Ok, Err, Some, None, Option}
 use Rattle.op.specs.declared.Operand.{Operand}
 use Rattle.op.specs.declared.Operand.TheVariants.{Offset}
 use Rattle.code.specs.Encode.{encode}
@@ -8,10 +10,7 @@ use Rattle.code.specs.Bytes.{signed}
 use Rattle.builder.specs.declared.Builder.{Builder}
 use Rattle.builder.specs.declared.Core.{Core}
 use Rattle.builder.specs.declared.JumpTarget.{JumpTarget}
-use Rattle.builder.specs.declared.Location.{Location}
 use Rattle.builder.specs.declared.marks.Mark.{Mark}
-use Rattle.builder.specs.declared.plan.Plan.{Plan}
-use Rattle.builder.specs.declared.plan.Plan.TheVariants.{Idle, Refuse, Go}
 use Rattle.builder.specs.Marks.{target_mark}
 use Rattle.builder.specs.Plan.{Asked, Back, bits_to, emitting_of}
 use Rattle.builder.specs.Emission.{CoreOutcome, Outcome, commit_of, outcome_by}
@@ -21,7 +20,7 @@ abbrev pub jump_by : ℕ → Operand
 jump_by w = Offset (signed 65536 w)
 
 -- what `emit_jump_to` asks for, with the mark that its target names
-abbrev pub to_asked : (core : Core) (location : Location) (opcode : ℕ) (target : JumpTarget) (mark : Mark)
+abbrev pub to_asked : (core : Core) (location : Option Location) (opcode : ℕ) (target : JumpTarget) (mark : Mark)
     (code locations marks : ℕ) → Asked
 to_asked core location opcode target mark code locations marks = record {
   core = core;
@@ -36,25 +35,25 @@ to_asked core location opcode target mark code locations marks = record {
   marks = marks;
 }
 
-unfoldable pub to_plan_of : (core : Core) (location : Location) (opcode : ℕ) (target : JumpTarget)
-    (code locations : ℕ) (marks : List ℕ) → Plan
+unfoldable pub to_plan_of : (core : Core) (location : Option Location) (opcode : ℕ) (target : JumpTarget)
+    (code locations : ℕ) (marks : List ℕ) → Decision
 to_plan_of core location opcode target code locations marks =
     emitting_of
     (to_asked core location opcode target (target_mark target core.marks marks) code locations (length marks))
 
 -- the displacement that a plan found
-abbrev pub word_in : Plan → ℕ
-word_in Idle = 0
-word_in (Refuse refusal) = 0
-word_in (Go after word size) = word
+abbrev pub word_in : Decision → ℕ
+word_in (Ok None) = 0
+word_in (Err refusal) = 0
+word_in (Ok (Some plan)) = plan.word
 
 -- what such a plan comes to
-abbrev pub commit_to : (plan : Plan) (core : Core) (location : Location) (opcode : ℕ) (code locations : List ℕ)
+abbrev pub commit_to : (plan : Decision) (core : Core) (location : Option Location) (opcode : ℕ) (code locations : List ℕ)
     → CoreOutcome
 commit_to plan core location opcode code locations =
     commit_of plan core location (encode opcode (jump_by (word_in plan)) []) code locations
 
-unfoldable pub jump_to_core : (core : Core) (location : Location) (opcode : ℕ) (target : JumpTarget)
+unfoldable pub jump_to_core : (core : Core) (location : Option Location) (opcode : ℕ) (target : JumpTarget)
     (code locations marks : List ℕ) → CoreOutcome
 jump_to_core core location opcode target code locations marks =
     commit_to

@@ -1,20 +1,19 @@
 -- Constants: R23, R41, refusal 9 (R27).
 -- Assumes nothing.
-use Rattle.std.specs.Prelude.{cond, List, [], ◌∷◌, ℕ, ◌+◌, leb, length}
+use Rattle.op.specs.declared.Refusal.{Refusal}
+use Rattle.std.specs.Prelude.{cond, List, [], ◌∷◌, ℕ, ◌+◌, leb, length, Ok, Err, Result}
 use Rattle.op.specs.declared.Refusal.TheVariants.{TooManyConstants, Full, Unsound}
 use Rattle.op.specs.declared.Table.TheVariants.{Constants}
-use Rattle.builder.specs.declared.Added.{Added}
-use Rattle.builder.specs.declared.Added.TheVariants as N
 use Rattle.builder.specs.declared.Builder.{Builder}
 use Rattle.code.specs.Tables.{cell_room, cells_within, put, word_max}
 use Rattle.builder.specs.State.{counts_of}
 
 -- the answer, and the constants as the call leaves them
 pub record AddedKept : Type 0 where
-  pub answer : Added
+  pub answer : Result (Builder × ℕ) Refusal
   pub cells : List ℕ
 
-abbrev pub added_kept : (answer : Added) (cells : List ℕ) → AddedKept
+abbrev pub added_kept : (answer : Result (Builder × ℕ) Refusal) (cells : List ℕ) → AddedKept
 added_kept answer cells = record { answer = answer; cells = cells }
 
 -- the same state with so many constants
@@ -35,8 +34,8 @@ add_const_of builder value cells =
     (cond (leb builder.constants word_max)
     (cond (cell_room builder.constants (length cells))
     (added_kept
-    (N.Made (with_constants builder (builder.constants + 1)) builder.constants)
+    (Ok ((with_constants builder (builder.constants + 1)), builder.constants))
     (put builder.constants (value ∷ []) cells))
-    (added_kept (N.Refused (Full Constants)) cells))
-    (added_kept (N.Refused TooManyConstants) cells))
-    (added_kept (N.Refused Unsound) cells)
+    (added_kept (Err (Full Constants)) cells))
+    (added_kept (Err TooManyConstants) cells))
+    (added_kept (Err Unsound) cells)

@@ -1,27 +1,23 @@
 -- The model of emission: answer, state and tables after an emitting call: builder.rs, `emit_with_operand` and the calls
 -- over it.
 -- Assumes nothing.
-use Rattle.std.specs.Prelude.{cond, List, ℕ, ◌+◌, leb, length}
+use Rattle.builder.specs.Plan.{Decision}
+use Rattle.builder.specs.declared.Location.{Location}
+use Rattle.op.specs.declared.Refusal.{Refusal}
+use Rattle.std.specs.Prelude.{cond, List, ℕ, ◌+◌, leb, length, Ok, Err, Some, None, Result, Option}
 use Rattle.op.specs.Chosen.{LoadLocal0, LoadLocal, LoadLocalW, StoreLocal, StoreLocalW}
 use Rattle.op.specs.declared.Operand.{Operand}
 use Rattle.op.specs.declared.Operand.TheVariants as O
 use Rattle.code.specs.Encode.{encode}
-use Rattle.builder.specs.declared.Answer.{Answer}
 use Rattle.builder.specs.declared.Builder.{Builder}
 use Rattle.builder.specs.declared.Core.{Core}
-use Rattle.builder.specs.declared.Depth.{Depth}
-use Rattle.builder.specs.declared.Location.{Location}
-use Rattle.builder.specs.declared.plan.Plan.{Plan}
-use Rattle.builder.specs.declared.plan.Plan.TheVariants.{Idle, Refuse, Go}
-use Rattle.builder.specs.declared.state.CoreAnswer.{CoreAnswer}
-use Rattle.builder.specs.declared.state.CoreAnswer.TheVariants as C
 use Rattle.code.specs.Tables.{put}
 use Rattle.builder.specs.State.{answer_by}
 use Rattle.builder.specs.Locations.{locations_after, rows_after}
 use Rattle.builder.specs.Plan.{plan_of}
 
 -- the core with so many location rows, after an instruction of so many bytes
-abbrev pub core_with : (core : Core) (rows size : ℕ) (after : Depth) → Core
+abbrev pub core_with : (core : Core) (rows size : ℕ) (after : Option ℕ) → Core
 core_with core rows size after = record {
   code = core.code + size;
   locations = rows;
@@ -30,30 +26,30 @@ core_with core rows size after = record {
 }
 
 -- the same, the location's row counted
-abbrev pub core_after : (core : Core) (location : Location) (size : ℕ) (after : Depth) → Core
+abbrev pub core_after : (core : Core) (location : Option Location) (size : ℕ) (after : Option ℕ) → Core
 core_after core location size after = core_with core (rows_after location core.locations) size after
 
 -- the answer of the core, and code and locations as the call leaves them
 pub record CoreOutcome : Type 0 where
-  pub answer : CoreAnswer
+  pub answer : Result Core Refusal
   pub code : List ℕ
   pub locations : List ℕ
 
-abbrev pub core_outcome : (answer : CoreAnswer) (code locations : List ℕ) → CoreOutcome
+abbrev pub core_outcome : (answer : Result Core Refusal) (code locations : List ℕ) → CoreOutcome
 core_outcome answer code locations = record { answer = answer; code = code; locations = locations }
 
 -- what a plan comes to: the bytes at the used end and a location's row, or no change (R33)
-abbrev pub commit_of : Plan → (core : Core) (location : Location) (bytes code locations : List ℕ) → CoreOutcome
-commit_of Idle core location bytes code locations = core_outcome (C.Accepted core) code locations
-commit_of (Refuse refusal) core location bytes code locations = core_outcome (C.Refused refusal) code locations
-commit_of (Go after word size) core location bytes code locations =
+abbrev pub commit_of : Decision → (core : Core) (location : Option Location) (bytes code locations : List ℕ) → CoreOutcome
+commit_of (Ok None) core location bytes code locations = core_outcome (Ok core) code locations
+commit_of (Err refusal) core location bytes code locations = core_outcome (Err refusal) code locations
+commit_of (Ok (Some plan)) core location bytes code locations =
     core_outcome
-    (C.Accepted (core_after core location size after))
+    (Ok (core_after core location plan.size plan.after))
     (put core.code bytes code)
     (locations_after location core.locations core.code locations)
 
 -- emission on the core
-unfoldable pub emit_core : (core : Core) (location : Location) (opcode name : ℕ) (operand : Operand)
+unfoldable pub emit_core : (core : Core) (location : Option Location) (opcode name : ℕ) (operand : Operand)
     (names code locations : List ℕ) → CoreOutcome
 emit_core core location opcode name operand names code locations =
     commit_of
@@ -62,11 +58,11 @@ emit_core core location opcode name operand names code locations =
 
 -- the answer, and code and locations as the call leaves them
 pub record Outcome : Type 0 where
-  pub answer : Answer
+  pub answer : Result Builder Refusal
   pub code : List ℕ
   pub locations : List ℕ
 
-abbrev pub outcome : (answer : Answer) (code locations : List ℕ) → Outcome
+abbrev pub outcome : (answer : Result Builder Refusal) (code locations : List ℕ) → Outcome
 outcome answer code locations = record { answer = answer; code = code; locations = locations }
 
 abbrev pub outcome_by : Builder → CoreOutcome → Outcome

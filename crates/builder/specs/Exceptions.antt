@@ -1,12 +1,11 @@
 -- Exceptions: R22, R41, refusal 10 (R27).
 -- Assumes nothing.
-use Rattle.std.specs.Prelude.{Bool, ◌&&◌, List, ℕ, ◌+◌, leb, length}
+use Rattle.std.specs.Prelude.{Bool, ◌&&◌, List, ℕ, ◌+◌, leb, length, Ok}
 use Rattle.op.specs.declared.Refusal.TheVariants.{TooLarge, Full, Unsound}
 use Rattle.op.specs.declared.Table.TheVariants.{Exceptions}
 use Rattle.code.specs.Entries.{kind_number}
 use Rattle.code.specs.Lookups.{handler_cells}
 use Rattle.code.specs.declared.HandlerKind.{HandlerKind}
-use Rattle.builder.specs.declared.Answer.TheVariants.{Accepted}
 use Rattle.builder.specs.declared.Builder.{Builder}
 use Rattle.code.specs.Tables.{exception_cells, push, room, within}
 use Rattle.builder.specs.State.{Kept, counts_of, kept, unless}
@@ -49,5 +48,5 @@ add_exception_of builder start end handler depth count kind cells =
     unless (counts_of builder (within exception_cells builder.exceptions (length cells))) Unsound cells
     (unless (offsets_fit start end handler) TooLarge cells
     (unless (room exception_cells builder.exceptions (length cells)) (Full Exceptions) cells
-    (kept (Accepted (with_exceptions builder (builder.exceptions + 1)))
+    (kept (Ok (with_exceptions builder (builder.exceptions + 1)))
     (push exception_cells builder.exceptions (exception_row start end handler depth count kind) cells))))

@@ -1,17 +1,16 @@
 -- The model of `emit_jump`. It has no target yet, so 12, 13, 11 and 6 are left to `patch_jump`.
 -- Assumes nothing.
-use Rattle.std.specs.Prelude.{List, [], ℕ, ◌+◌, length, pos}
+use Rattle.builder.specs.Plan.{Decision}
+use Rattle.builder.specs.declared.JumpLabel.{JumpLabel}
+use Rattle.builder.specs.declared.Location.{Location}
+use Rattle.op.specs.declared.Refusal.{Refusal}
+use Rattle.std.specs.Prelude.{List, [], ℕ, ◌+◌, length, pos, Ok, Err, Some, None, Result, Option}
 use Rattle.op.specs.declared.Operand.{Operand}
 use Rattle.op.specs.declared.Operand.TheVariants.{Offset}
 use Rattle.code.specs.Encode.{encode}
 use Rattle.builder.specs.declared.Builder.{Builder}
 use Rattle.builder.specs.declared.Core.{Core}
 use Rattle.builder.specs.declared.JumpLabel.TheVariants as L
-use Rattle.builder.specs.declared.Jumped.{Jumped}
-use Rattle.builder.specs.declared.Jumped.TheVariants as J
-use Rattle.builder.specs.declared.Location.{Location}
-use Rattle.builder.specs.declared.plan.Plan.{Plan}
-use Rattle.builder.specs.declared.plan.Plan.TheVariants.{Idle, Refuse, Go}
 use Rattle.code.specs.Tables.{mark_cells, push, put}
 use Rattle.builder.specs.State.{with_core, with_marks}
 use Rattle.builder.specs.Locations.{locations_after}
@@ -24,7 +23,7 @@ abbrev pub unpatched : Operand
 unpatched = Offset (pos 0)
 
 -- what `emit_jump` asks for
-abbrev pub jump_asked : (core : Core) (location : Location) (opcode code locations marks : ℕ) → Asked
+abbrev pub jump_asked : (core : Core) (location : Option Location) (opcode code locations marks : ℕ) → Asked
 jump_asked core location opcode code locations marks = record {
   core = core;
   location = location;
@@ -38,17 +37,17 @@ jump_asked core location opcode code locations marks = record {
   marks = marks;
 }
 
-unfoldable pub jump_plan_of : (core : Core) (location : Location) (opcode code locations marks : ℕ) → Plan
+unfoldable pub jump_plan_of : (core : Core) (location : Option Location) (opcode code locations marks : ℕ) → Decision
 jump_plan_of core location opcode code locations marks = emitting_of (jump_asked core location opcode code locations marks)
 
 -- the answer, and the three tables as the call leaves them
 pub record JumpOutcome : Type 0 where
-  pub answer : Jumped
+  pub answer : Result (Builder × JumpLabel) Refusal
   pub code : List ℕ
   pub locations : List ℕ
   pub marks : List ℕ
 
-abbrev pub jump_outcome : (answer : Jumped) (code locations marks : List ℕ) → JumpOutcome
+abbrev pub jump_outcome : (answer : Result (Builder × JumpLabel) Refusal) (code locations marks : List ℕ) → JumpOutcome
 jump_outcome answer code locations marks = record {
   answer = answer;
   code = code;
@@ -57,17 +56,17 @@ jump_outcome answer code locations marks = record {
 }
 
 -- an open label's mark at the used end, with the jump's offset and the depth that it arrives with
-abbrev pub commit_jump : Plan → (builder : Builder) (opcode : ℕ) (code locations marks : List ℕ) → JumpOutcome
-commit_jump Idle builder opcode code locations marks = jump_outcome (J.Made builder L.Dead) code locations marks
-commit_jump (Refuse refusal) builder opcode code locations marks = jump_outcome (J.Refused refusal) code locations marks
-commit_jump (Go after taken size) builder opcode code locations marks =
+abbrev pub commit_jump : Decision → (builder : Builder) (opcode : ℕ) (code locations marks : List ℕ) → JumpOutcome
+commit_jump (Ok None) builder opcode code locations marks = jump_outcome (Ok (builder, L.Dead)) code locations marks
+commit_jump (Err refusal) builder opcode code locations marks = jump_outcome (Err refusal) code locations marks
+commit_jump (Ok (Some plan)) builder opcode code locations marks =
     let core = builder.core in
-    let next = with_marks (core_after core builder.location size after) (core.marks + 1) in
+    let next = with_marks (core_after core builder.location plan.size plan.after) (core.marks + 1) in
     jump_outcome
-    (J.Made (with_core builder next) (L.Row core.marks))
+    (Ok ((with_core builder next), (L.Row core.marks)))
     (put core.code (encode opcode unpatched []) code)
     (locations_after builder.location core.locations core.code locations)
-    (push mark_cells core.marks (mark_row open_kind core.code taken) marks)
+    (push mark_cells core.marks (mark_row open_kind core.code plan.word) marks)
 
 -- R37
 unfoldable pub emit_jump_of : (builder : Builder) (opcode : ℕ) (code locations marks : List ℕ) → JumpOutcome

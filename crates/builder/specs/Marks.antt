@@ -1,16 +1,13 @@
 -- Marks, and how far a jump goes: R16, R24, R39, refusals 6, 13, 14, 17 and 19 (R27).
 -- Assumes nothing.
-use Rattle.std.specs.Prelude.{cond, ◌&&◌, Bool, true, false, ◌||◌, List, [], ◌∷◌, ℕ, ◌+◌, ◌*◌, ◌-◌, ◌%◌, zero, suc, leb, eqb, ltb, length, get_or}
+use Rattle.op.specs.declared.Refusal.{Refusal}
+use Rattle.std.specs.Prelude.{cond, ◌&&◌, Bool, true, false, ◌||◌, List, [], ◌∷◌, ℕ, ◌+◌, ◌*◌, ◌-◌, ◌%◌, zero, suc, leb, eqb, ltb, length, get_or, Ok, Err, Some, None, Result, Option}
 use Rattle.op.specs.declared.Refusal.TheVariants.{Full, Unsound}
 use Rattle.op.specs.declared.Table.TheVariants.{Marks}
 use Rattle.builder.specs.declared.Builder.{Builder}
 use Rattle.builder.specs.declared.Core.{Core}
-use Rattle.builder.specs.declared.Depth.{Depth}
-use Rattle.builder.specs.declared.Depth.TheVariants.{Dead, Live}
 use Rattle.builder.specs.declared.JumpTarget.{JumpTarget}
 use Rattle.builder.specs.declared.JumpTarget.TheVariants as T
-use Rattle.builder.specs.declared.Targeted.{Targeted}
-use Rattle.builder.specs.declared.Targeted.TheVariants as G
 use Rattle.builder.specs.declared.marks.Mark.{Mark}
 use Rattle.builder.specs.declared.marks.Mark.TheVariants.{Absent, Open, Patched, Target}
 use Rattle.code.specs.Tables.{code_within, jump_size, mark_cells, push, room, within, word_max}
@@ -83,40 +80,40 @@ unfoldable pub bits : (offset target : ℕ) → ℕ
 bits offset target = (target + 65536 - (offset + jump_size)) % 65536
 
 -- 11 of a patch, "a jump meets another depth": dead code has none
-abbrev pub meets : (here : Depth) (depth : ℕ) → Bool
-meets Dead depth = true
-meets (Live here) depth = eqb here depth
+abbrev pub meets : (here : Option ℕ) (depth : ℕ) → Bool
+meets None depth = true
+meets (Some here) depth = eqb here depth
 
 -- a label's depth revives dead code, and is never written over live code's
-abbrev pub revived : (here : Depth) (depth : ℕ) → Depth
-revived Dead depth = Live depth
-revived (Live here) depth = Live here
+abbrev pub revived : (here : Option ℕ) (depth : ℕ) → Option ℕ
+revived None depth = Some depth
+revived (Some here) depth = Some here
 
 -- the answer, and the marks as the call leaves them
 pub record TargetOutcome : Type 0 where
-  pub answer : Targeted
+  pub answer : Result (Builder × JumpTarget) Refusal
   pub marks : List ℕ
 
-abbrev pub target_outcome : (answer : Targeted) (marks : List ℕ) → TargetOutcome
+abbrev pub target_outcome : (answer : Result (Builder × JumpTarget) Refusal) (marks : List ℕ) → TargetOutcome
 target_outcome answer marks = record { answer = answer; marks = marks }
 
 -- 18, then a target's mark at the used end, with the offset and the depth here
-abbrev pub target_at : Depth → (builder : Builder) (marks : List ℕ) → TargetOutcome
-target_at Dead builder marks = target_outcome (G.Made builder T.Dead) marks
-target_at (Live here) builder marks =
+abbrev pub target_at : Option ℕ → (builder : Builder) (marks : List ℕ) → TargetOutcome
+target_at None builder marks = target_outcome (Ok (builder, T.Dead)) marks
+target_at (Some here) builder marks =
     let core = builder.core in
     cond (room mark_cells core.marks (length marks))
     (target_outcome
-    (G.Made (with_core builder (with_marks core (core.marks + 1))) (T.Row core.marks))
+    (Ok ((with_core builder (with_marks core (core.marks + 1))), (T.Row core.marks)))
     (push mark_cells core.marks (mark_row target_kind core.code here) marks))
-    (target_outcome (G.Refused (Full Marks)) marks)
+    (target_outcome (Err (Full Marks)) marks)
 
 -- "19, their own refusals, 18"; dead, nothing is wanted (R39)
 unfoldable pub target_of : (builder : Builder) (marks : List ℕ) → TargetOutcome
 target_of builder marks =
     cond (counts_of builder (within mark_cells builder.core.marks (length marks)))
     (target_at builder.core.depth builder marks)
-    (target_outcome (G.Refused Unsound) marks)
+    (target_outcome (Err Unsound) marks)
 
 -- 17, "an open label": whether one of the first marks is
 unfoldable pub any_open : (rows : ℕ) (marks : List ℕ) → Bool

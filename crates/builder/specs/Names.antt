@@ -1,9 +1,8 @@
 -- The names of local slots, and `build`: R23, R40, R43, refusals 16 and 17 (R27).
 -- Assumes nothing.
-use Rattle.std.specs.Prelude.{cond, ◌&&◌, List, [], ◌∷◌, ◌++◌, map, ℕ, ◌+◌, ◌-◌, leb, ltb, eqb, length, take, drop, get_or, set, replicate}
+use Rattle.std.specs.Prelude.{cond, ◌&&◌, List, [], ◌∷◌, ◌++◌, map, ℕ, ◌+◌, ◌-◌, leb, ltb, eqb, length, take, drop, get_or, set, replicate, Ok, Err}
 use Rattle.op.specs.declared.Refusal.TheVariants.{NamesHeld, OpenLabel, Full, Unsound}
 use Rattle.op.specs.declared.Table.TheVariants.{Names}
-use Rattle.builder.specs.declared.Answer.TheVariants.{Accepted, Refused}
 use Rattle.builder.specs.declared.Builder.{Builder}
 use Rattle.code.specs.Tables.{cell_room, cells_within, mark_cells, put, within}
 use Rattle.builder.specs.State.{Kept, counts_of, kept, unless}
@@ -30,7 +29,7 @@ register_names_of builder names cells =
     unless (counts_of builder (cells_within builder.names (length cells))) Unsound cells
     (unless (eqb builder.names 0) NamesHeld cells
     (unless (leb (length names) (length cells)) (Full Names) cells
-    (kept (Accepted (with_names builder (length names))) (put 0 (map name_cell names) cells))))
+    (kept (Ok (with_names builder (length names))) (put 0 (map name_cell names) cells))))
 
 -- "extends with absent slots"
 abbrev pub extension : (absent name : ℕ) → List ℕ
@@ -45,10 +44,10 @@ unfoldable pub register_name_of : (builder : Builder) (slot name : ℕ) (cells :
 register_name_of builder slot name cells =
     unless (counts_of builder (cells_within builder.names (length cells))) Unsound cells
     (cond (ltb slot builder.names)
-    (kept (Accepted builder) (set cells slot (named (get_or cells slot 0) name)))
+    (kept (Ok builder) (set cells slot (named (get_or cells slot 0) name)))
     (unless (cell_room slot (length cells)) (Full Names) cells
     (kept
-    (Accepted (with_names builder (slot + 1)))
+    (Ok (with_names builder (slot + 1)))
     (put builder.names (extension (slot - builder.names) name) cells))))
 
 -- "a told name", in the used cells
@@ -63,5 +62,5 @@ build_of builder name cells marks =
     && within mark_cells builder.core.marks (length marks)))
     Unsound cells
     (cond (any_open builder.core.marks marks)
-    (kept (Refused OpenLabel) cells)
-    (kept (Accepted builder) (filled_names builder.names name cells)))
+    (kept (Err OpenLabel) cells)
+    (kept (Ok builder) (filled_names builder.names name cells)))

@@ -1,13 +1,12 @@
 -- What an emitting call decides: R28, "19, 1, 8, then dead code is accepted and nothing changes, then 3,
 -- taken depth 4, 12 or 13, 11, 6, 7, 2, 4, 5, and last 18: code, locations, marks".
 -- Assumes nothing.
-use Rattle.std.specs.Prelude.{Bool, true, false, cond, ◌&&◌, ℕ, leb, eqb}
+use Rattle.builder.specs.declared.Location.{Location}
+use Rattle.std.specs.Prelude.{Bool, true, false, cond, ◌&&◌, ℕ, leb, eqb, Ok, Err, Some, None, Result, Option}
 use Rattle.op.specs.Opcodes.{known}
 use Rattle.op.specs.Effects.{dead_maker}
 use Rattle.op.specs.Depths.{after_of, taken_depth_of}
 use Rattle.op.specs.Shapes.{operand_shape, size_of}
-use Rattle.op.specs.declared.After.{After}
-use Rattle.op.specs.declared.After.TheVariants as A
 use Rattle.op.specs.declared.Operand.{Operand}
 use Rattle.op.specs.declared.Refusal.{Refusal}
 use Rattle.op.specs.declared.Refusal.TheVariants.{UnknownOpcode, WrongShape, JumpTooFar, TooManyKeywords, NameTooLarge}
@@ -15,16 +14,10 @@ use Rattle.op.specs.declared.Refusal.TheVariants.{DepthsDiffer, DeadTarget, NoSu
 use Rattle.op.specs.declared.Table.TheVariants.{Code, Locations, Marks}
 use Rattle.code.specs.Decode.{names_in}
 use Rattle.builder.specs.declared.Core.{Core}
-use Rattle.builder.specs.declared.Depth.{Depth}
-use Rattle.builder.specs.declared.Depth.TheVariants.{Dead, Live}
+use Rattle.builder.specs.declared.plan.Plan.{Plan}
 use Rattle.builder.specs.declared.JumpTarget.{JumpTarget}
 use Rattle.builder.specs.declared.JumpTarget.TheVariants as T
-use Rattle.builder.specs.declared.Location.{Location}
 use Rattle.builder.specs.declared.marks.Mark.{Mark}
-use Rattle.builder.specs.declared.plan.Entered.{Entered}
-use Rattle.builder.specs.declared.plan.Entered.TheVariants as E
-use Rattle.builder.specs.declared.plan.Plan.{Plan}
-use Rattle.builder.specs.declared.plan.Plan.TheVariants.{Idle, Refuse, Go}
 use Rattle.code.specs.Locations.{locations_within}
 use Rattle.code.specs.Tables.{code_room, code_within, mark_cells, room, within, word_max}
 use Rattle.builder.specs.Locations.{row_fits}
@@ -43,7 +36,7 @@ pub data Way : Type 0 where
 -- many keyword names there are; then how many cells each lent table has
 pub record Asked : Type 0 where
   pub core : Core
-  pub location : Location
+  pub location : Option Location
   pub opcode : ℕ
   pub name : ℕ
   pub operand : Operand
@@ -71,17 +64,24 @@ ask_sound asked =
     way_sound asked.way asked.core asked.marks && sound_of asked.core asked.code asked.locations
 
 -- 3, taken-depth 4: the depth that a jump arrives with
-abbrev pub taken_in : (way : Way) (here opcode : ℕ) → After
-taken_in Onward here opcode = A.Depth here
+abbrev pub taken_in : (way : Way) (here opcode : ℕ) → Result ℕ Refusal
+taken_in Onward here opcode = Ok here
 taken_in Ahead here opcode = taken_depth_of here opcode
 taken_in (Back target mark) here opcode = taken_depth_of here opcode
 
+-- what it is to do: write, nothing in dead code, or refuse
+abbrev pub Decision : Type 0
+Decision = Result (Option Plan) Refusal
+
+abbrev pub planned : (after : Option ℕ) (word size : ℕ) → Plan
+planned after word size = record { after = after; word = word; size = size }
+
 -- 12 or 13
-abbrev pub aimed : (way : Way) → Plan → Plan
+abbrev pub aimed : (way : Way) → Decision → Decision
 aimed Onward plan = plan
 aimed Ahead plan = plan
-aimed (Back T.Dead mark) plan = Refuse DeadTarget
-aimed (Back (T.Row row) mark) plan = of_target mark (λ (offset depth : ℕ). plan) (Refuse NoSuchMark)
+aimed (Back T.Dead mark) plan = Err DeadTarget
+aimed (Back (T.Row row) mark) plan = of_target mark (λ (offset depth : ℕ). plan) (Err NoSuchMark)
 
 -- 11, "a jump meets another depth"
 abbrev pub meets_aim : (way : Way) (taken : ℕ) → Bool
@@ -116,8 +116,8 @@ mark_free (Back target mark) core marks = true
 -- what a plan holds
 
 -- "Six opcodes make the code behind them dead"
-unfoldable pub behind : (opcode next : ℕ) → Depth
-behind opcode next = cond (dead_maker opcode) Dead (Live next)
+unfoldable pub behind : (opcode next : ℕ) → Option ℕ
+behind opcode next = cond (dead_maker opcode) None (Some next)
 
 -- the displacement to a mark's place
 abbrev pub bits_to : (mark : Mark) (at : ℕ) → ℕ
@@ -132,30 +132,29 @@ word_by (Back target mark) taken at = bits_to mark at
 -- the order
 
 -- go on where the test holds, else refuse
-abbrev pub admit : Bool → Refusal → Entered → Entered
+abbrev pub admit : Bool → Refusal → Result (Option ℕ) Refusal → Result (Option ℕ) Refusal
 admit true refusal entered = entered
-admit false refusal entered = E.Refused refusal
+admit false refusal entered = Err refusal
 
-abbrev pub guard : Bool → Refusal → Plan → Plan
+abbrev pub guard : Bool → Refusal → Decision → Decision
 guard true refusal plan = plan
-guard false refusal plan = Refuse refusal
+guard false refusal plan = Err refusal
 
 -- go on with the depth, where there is one
-abbrev pub depth_here : Depth → Entered
-depth_here Dead = E.Dead
-depth_here (Live here) = E.Live here
+abbrev pub depth_here : Option ℕ → Result (Option ℕ) Refusal
+depth_here depth = Ok depth
 
-abbrev pub entered : Entered → (ℕ → Plan) → Plan
-entered E.Dead plan = Idle
-entered (E.Refused refusal) plan = Refuse refusal
-entered (E.Live here) plan = plan here
+abbrev pub entered : Result (Option ℕ) Refusal → (ℕ → Decision) → Decision
+entered (Ok None) plan = Ok None
+entered (Err refusal) plan = Err refusal
+entered (Ok (Some here)) plan = plan here
 
-abbrev pub arrived : After → (ℕ → Plan) → Plan
-arrived (A.Refused refusal) plan = Refuse refusal
-arrived (A.Depth depth) plan = plan depth
+abbrev pub arrived : Result ℕ Refusal → (ℕ → Decision) → Decision
+arrived (Err refusal) plan = Err refusal
+arrived (Ok depth) plan = plan depth
 
 -- how every emitting call begins (R28)
-unfoldable pub enter_of : (sound : Bool) (opcode name : ℕ) (depth : Depth) → Entered
+unfoldable pub enter_of : (sound : Bool) (opcode name : ℕ) (depth : Option ℕ) → Result (Option ℕ) Refusal
 enter_of sound opcode name depth =
     admit sound Unsound  -- 19
     (admit (known opcode) UnknownOpcode  -- 1
@@ -163,7 +162,7 @@ enter_of sound opcode name depth =
     (depth_here depth)))  -- dead code (accepted, nothing changes)
 
 -- the whole line; an operand that counts other names than there are has another shape too (R28)
-unfoldable pub emitting_of : Asked → Plan
+unfoldable pub emitting_of : Asked → Decision
 emitting_of asked =
     entered (enter_of (ask_sound asked) asked.opcode asked.name asked.core.depth)  -- 19, 1, 8, dead code
     (λ (here : ℕ). arrived (taken_in asked.way here asked.opcode)  -- 3, taken-depth 4
@@ -176,10 +175,10 @@ emitting_of asked =
     (λ (next : ℕ). guard (code_free asked) (Full Code)  -- 18
     (guard (location_free asked) (Full Locations)
     (guard (mark_free asked.way asked.core asked.marks) (Full Marks)
-    (Go (behind asked.opcode next) (word_by asked.way taken asked.core.code) (size_in asked))))))))))))
+    (Ok (Some (planned (behind asked.opcode next) (word_by asked.way taken asked.core.code) (size_in asked))))))))))))))
 
 -- an instruction that is no jump
-abbrev pub plain_asked : (core : Core) (location : Location) (opcode name : ℕ) (operand : Operand)
+abbrev pub plain_asked : (core : Core) (location : Option Location) (opcode name : ℕ) (operand : Operand)
     (names code locations : ℕ) → Asked
 plain_asked core location opcode name operand names code locations = record {
   core = core;
@@ -194,7 +193,7 @@ plain_asked core location opcode name operand names code locations = record {
   marks = 0;
 }
 
-unfoldable pub plan_of : (core : Core) (location : Location) (opcode name : ℕ) (operand : Operand)
-    (names code locations : ℕ) → Plan
+unfoldable pub plan_of : (core : Core) (location : Option Location) (opcode name : ℕ) (operand : Operand)
+    (names code locations : ℕ) → Decision
 plan_of core location opcode name operand names code locations =
     emitting_of (plain_asked core location opcode name operand names code locations)

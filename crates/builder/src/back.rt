@@ -7,41 +7,40 @@ ghost use Rattle.builder.specs.Inner.{Lives, Sound};
 ghost use Rattle.op.specs.Depths.{taken_depth_of};
 
 use crate::marks::Mark;
-use crate::plan::{Entered, Plan};
-use crate::state::CoreAnswer;
+use crate::plan::Decision;
 use crate::{Core, JumpTarget, Location, emission, marks, plan};
 use code::signs;
-use op::{After, Operand, Refusal, depths};
+use op::{Operand, Refusal, depths};
 
 // What is decided of a jump that arrives at a used mark with depth `e`.
 fn decide_spot(
     mark: Mark,
     e: u16,
     core: Core,
-    location: Location,
+    location: Option<Location>,
     d: u16,
     opcode: u8,
     cl: usize,
     ll: usize,
-) -> Plan
+) -> Decision
     requires { Sound core cl ll }
     ensures { (row ml : ℕ) → Lives (to_asked core location opcode (JumpTarget.Row row) mark cl ll ml) d
-        → taken_depth_of d opcode ≡ After.Depth e
+        → taken_depth_of d opcode ≡ Ok e
         → result ≡ emitting_of (to_asked core location opcode (JumpTarget.Row row) mark cl ll ml) }
 {
     match mark {
-        Mark::Absent => Plan::Refuse(Refusal::NoSuchMark),
-        Mark::Open(_, _) => Plan::Refuse(Refusal::NoSuchMark),
-        Mark::Patched(_, _) => Plan::Refuse(Refusal::NoSuchMark),
+        Mark::Absent => Err(Refusal::NoSuchMark),
+        Mark::Open(_, _) => Err(Refusal::NoSuchMark),
+        Mark::Patched(_, _) => Err(Refusal::NoSuchMark),
         Mark::Target(offset, depth) => {
             if e as u32 != depth {
-                return Plan::Refuse(Refusal::DepthsDiffer);
+                return Err(Refusal::DepthsDiffer);
             }
             if !marks::is_near(core.code, offset as usize) {
-                return Plan::Refuse(Refusal::JumpTooFar);
+                return Err(Refusal::JumpTooFar);
             }
             let word = marks::bits_of(core.code, offset as usize);
-            let plan = plan::decide_bytes(
+            let decision = plan::decide_bytes(
                 core,
                 d,
                 opcode,
@@ -50,7 +49,7 @@ fn decide_spot(
                 word,
                 cl,
             );
-            plan::also_location(plan, location, core.locations, ll)
+            plan::also_location(decision, location, core.locations, ll)
         }
     }
 }
@@ -59,92 +58,80 @@ fn decide_spot(
 fn decide_to_live(
     mark: Mark,
     core: Core,
-    location: Location,
+    location: Option<Location>,
     d: u16,
     opcode: u8,
     cl: usize,
     ll: usize,
-) -> Plan
+) -> Decision
     requires { Sound core cl ll }
     ensures { (row ml : ℕ) → Lives (to_asked core location opcode (JumpTarget.Row row) mark cl ll ml) d
         → result ≡ emitting_of (to_asked core location opcode (JumpTarget.Row row) mark cl ll ml) }
 {
-    let taken = depths::taken(d, opcode);
-    match taken {
-        After::Refused(refusal) => Plan::Refuse(refusal),
-        After::Depth(e) => decide_spot(mark, e, core, location, d, opcode, cl, ll),
-    }
+    let e = depths::taken(d, opcode)?;
+    decide_spot(mark, e, core, location, d, opcode, cl, ll)
 }
 
 // What a jump to a target is to do.
 fn decide_to(
     core: Core,
-    location: Location,
+    location: Option<Location>,
     opcode: u8,
     row: usize,
     cl: usize,
     ll: usize,
     marks: &[u32],
-) -> Plan
+) -> Decision
     ensures { result ≡ to_plan_of core location opcode (JumpTarget.Row row) cl ll marks.now }
 {
     if !plan::sound_with_marks(core, cl, ll, marks.len()) {
-        return Plan::Refuse(Refusal::Unsound);
+        return Err(Refusal::Unsound);
     }
     let mark = marks::mark_in(core.marks, marks, row);
-    let depth = core.depth;
-    let entered = plan::enter(marks::mark_sound(core.code, mark), opcode, 0, depth);
-    match entered {
-        Entered::Dead => Plan::Idle,
-        Entered::Refused(refusal) => Plan::Refuse(refusal),
-        Entered::Live(d) => decide_to_live(mark, core, location, d, opcode, cl, ll),
-    }
+    let entered = plan::enter(marks::mark_sound(core.code, mark), opcode, 0, core.depth)?;
+    let Some(d) = entered else {
+        return Ok(None);
+    };
+    decide_to_live(mark, core, location, d, opcode, cl, ll)
 }
 
 // A jump to a target that was made in dead code, on the core: it is refused, or does nothing.
 pub fn jump_nowhere(
     core: Core,
-    location: Location,
+    location: Option<Location>,
     opcode: u8,
     code: &[u8],
     locations: &[u32],
     marks: &[u32],
-) -> CoreAnswer
+) -> Result<Core, Refusal>
     ensures { core_outcome result code.now locations.now
         ≡ jump_to_core core location opcode JumpTarget.Dead code.now locations.now
         marks.now }
 {
-    let depth = core.depth;
     let sound = plan::sound_with_marks(core, code.len(), locations.len(), marks.len());
-    let entered = plan::enter(sound, opcode, 0, depth);
-    match entered {
-        Entered::Dead => CoreAnswer::Accepted(core),
-        Entered::Refused(refusal) => CoreAnswer::Refused(refusal),
-        Entered::Live(d) => {
-            let taken = depths::taken(d, opcode);
-            match taken {
-                After::Refused(refusal) => CoreAnswer::Refused(refusal),
-                After::Depth(_) => CoreAnswer::Refused(Refusal::DeadTarget),
-            }
-        }
-    }
+    let entered = plan::enter(sound, opcode, 0, core.depth)?;
+    let Some(d) = entered else {
+        return Ok(core);
+    };
+    let _ = depths::taken(d, opcode)?;
+    Err(Refusal::DeadTarget)
 }
 
 // A jump to a target, on the core.
 pub fn jump_to_core(
     core: Core,
-    location: Location,
+    location: Option<Location>,
     opcode: u8,
     row: usize,
     code: &mut [u8],
     locations: &mut [u32],
     marks: &[u32],
-) -> CoreAnswer
+) -> Result<Core, Refusal>
     ensures { core_outcome result code.new locations.new
         ≡ jump_to_core core location opcode (JumpTarget.Row row) code.old locations.old
         marks.now }
 {
-    let plan = decide_to(
+    let decision = decide_to(
         core,
         location,
         opcode,
@@ -152,22 +139,18 @@ pub fn jump_to_core(
         code.len(),
         locations.len(),
         marks,
+    )?;
+    let Some(plan) = decision else {
+        return Ok(core);
+    };
+    let rows = emission::commit(
+        core,
+        location,
+        opcode,
+        Operand::Offset(signs::to_i16(plan.word)),
+        &[],
+        code,
+        locations,
     );
-    match plan {
-        Plan::Idle => CoreAnswer::Accepted(core),
-        Plan::Refuse(refusal) => CoreAnswer::Refused(refusal),
-        Plan::Go(after, word, size) => {
-            let none: [u16; 0] = [];
-            let rows = emission::commit(
-                core,
-                location,
-                opcode,
-                Operand::Offset(signs::to_i16(word)),
-                &none,
-                code,
-                locations,
-            );
-            CoreAnswer::Accepted(emission::grown(core, rows, size, after))
-        }
-    }
+    Ok(emission::grown(core, rows, plan.size, plan.after))
 }

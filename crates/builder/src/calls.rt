@@ -20,54 +20,50 @@ ghost use Rattle.builder.specs.Patch.{patch_jump_of, patch_outcome};
 ghost use Rattle.op.specs.Chosen.{CallAttrKw, CallBuiltinFunction, CallBuiltinType, CallFunctionKw, LoadGlobalCallable};
 ghost use Rattle.op.specs.Opcodes.{RaiseUnboundLocal};
 
-use crate::numbered::Instruction;
-use crate::patch::PatchPlan;
-use crate::plan::Plan;
 use crate::{
-    Added, Answer, Builder, Depth, JumpLabel, JumpTarget, Jumped, Location, Targeted, back,
-    constants, emission, exceptions, forward, marks, names, numbered, patch, regions, state,
-    tables,
+    Builder, Core, JumpLabel, JumpTarget, Location, back, emission, exceptions, forward, marks,
+    names, numbered, patch, regions, tables,
 };
 use code::{
-    CODE_LIMIT, CodeRange, EXCEPTION_CELLS, Focus, HandlerKind, MARK_CELLS, START_CELLS, WORD_MAX,
+    CODE_LIMIT, CodeRange, EXCEPTION_CELLS, HandlerKind, MARK_CELLS, START_CELLS, WORD_MAX,
 };
 use op::{Operand, Refusal, Table, opcodes};
 
 impl Builder {
     // Makes a builder with nothing in it, told that it is dead, or live at a depth. Told live, it stores its start.
     // Refuses 18.
-    pub fn new(told: Depth, starts: &mut [u32]) -> Answer
+    pub fn new(told: Option<u16>, starts: &mut [u32]) -> Result<Builder, Refusal>
         ensures { kept result starts.new ≡ new_of told starts.old }
     {
-        let Depth::Live(d) = told else {
-            return Answer::Accepted(regions::fresh_at(Depth::Dead, 0));
+        let Some(d) = told else {
+            return Ok(regions::fresh_at(None, 0));
         };
         if starts.len() / START_CELLS <= 0 {
-            return Answer::Refused(Refusal::Full(Table::Starts));
+            return Err(Refusal::Full(Table::Starts));
         }
         tables::row2(starts, 0, d as u32);
-        Answer::Accepted(regions::fresh_at(Depth::Live(d), 1))
+        Ok(regions::fresh_at(Some(d), 1))
     }
 
     // Sets the source location of the instructions to come.
     // Never refuses.
-    pub fn set_location(self, range: CodeRange, focus: Focus) -> Builder
-        ensures { result ≡ with_location self (Location.Set range focus) }
+    pub fn set_location(self, range: CodeRange, focus: Option<CodeRange>) -> Builder
+        ensures { result ≡ with_location self (Some (record { range = range; focus = focus })) }
     {
-        let core = self.core;
         Builder {
-            core,
-            location: Location::Set(range, focus),
-            exceptions: self.exceptions,
-            constants: self.constants,
-            names: self.names,
-            starts: self.starts,
+            location: Some(Location { range, focus }),
+            ..self
         }
     }
 
     // Emits an instruction without an operand, and follows the depth.
     // Refuses 19, 1, then, live, 2, 4, 5, 18.
-    pub fn emit(self, opcode: u8, code: &mut [u8], locations: &mut [u32]) -> Answer
+    pub fn emit(
+        self,
+        opcode: u8,
+        code: &mut [u8],
+        locations: &mut [u32],
+    ) -> Result<Builder, Refusal>
         ensures { outcome result code.new locations.new
             ≡ emit_of self opcode Operand.None [] code.old locations.old }
     {
@@ -76,7 +72,13 @@ impl Builder {
 
     // Emits an instruction with a u8.
     // Refuses 19, 1, then, live, 2, 4, 5, 18.
-    pub fn emit_u8(self, opcode: u8, operand: u8, code: &mut [u8], locations: &mut [u32]) -> Answer
+    pub fn emit_u8(
+        self,
+        opcode: u8,
+        operand: u8,
+        code: &mut [u8],
+        locations: &mut [u32],
+    ) -> Result<Builder, Refusal>
         ensures { outcome result code.new locations.new
             ≡ emit_of self opcode (Operand.U8 operand) [] code.old locations.old }
     {
@@ -85,7 +87,13 @@ impl Builder {
 
     // Emits an instruction with an i8.
     // Refuses 19, 1, then, live, 2, 5, 18.
-    pub fn emit_i8(self, opcode: u8, operand: i8, code: &mut [u8], locations: &mut [u32]) -> Answer
+    pub fn emit_i8(
+        self,
+        opcode: u8,
+        operand: i8,
+        code: &mut [u8],
+        locations: &mut [u32],
+    ) -> Result<Builder, Refusal>
         ensures { outcome result code.new locations.new
             ≡ emit_of self opcode (Operand.I8 operand) [] code.old locations.old }
     {
@@ -101,7 +109,7 @@ impl Builder {
         operand2: u8,
         code: &mut [u8],
         locations: &mut [u32],
-    ) -> Answer
+    ) -> Result<Builder, Refusal>
         ensures { outcome result code.new locations.new
             ≡ emit_of self opcode (Operand.U8U8 operand1 operand2) [] code.old locations.old }
     {
@@ -123,7 +131,7 @@ impl Builder {
         operand: u16,
         code: &mut [u8],
         locations: &mut [u32],
-    ) -> Answer
+    ) -> Result<Builder, Refusal>
         ensures { outcome result code.new locations.new
             ≡ emit_of self opcode (Operand.U16 operand) [] code.old locations.old }
     {
@@ -139,7 +147,7 @@ impl Builder {
         operand2: u16,
         code: &mut [u8],
         locations: &mut [u32],
-    ) -> Answer
+    ) -> Result<Builder, Refusal>
         ensures { outcome result code.new locations.new
             ≡ emit_of self opcode (Operand.U16U16 operand1 operand2) [] code.old locations.old }
     {
@@ -162,7 +170,7 @@ impl Builder {
         operand2: u8,
         code: &mut [u8],
         locations: &mut [u32],
-    ) -> Answer
+    ) -> Result<Builder, Refusal>
         ensures { outcome result code.new locations.new
             ≡ emit_of self opcode (Operand.U16U8 operand1 operand2) [] code.old locations.old }
     {
@@ -186,7 +194,7 @@ impl Builder {
         operand3: u8,
         code: &mut [u8],
         locations: &mut [u32],
-    ) -> Answer
+    ) -> Result<Builder, Refusal>
         ensures { outcome result code.new locations.new
             ≡ emit_of self opcode (Operand.U16U8U8 operand1 operand2 operand3) [] code.old
             locations.old }
@@ -209,7 +217,7 @@ impl Builder {
         count: u8,
         code: &mut [u8],
         locations: &mut [u32],
-    ) -> Answer
+    ) -> Result<Builder, Refusal>
         ensures { outcome result code.new locations.new
             ≡ emit_of self CallBuiltinFunction (Operand.U8U8 builtin count) [] code.old
             locations.old }
@@ -231,7 +239,7 @@ impl Builder {
         count: u8,
         code: &mut [u8],
         locations: &mut [u32],
-    ) -> Answer
+    ) -> Result<Builder, Refusal>
         ensures { outcome result code.new locations.new
             ≡ emit_of self CallBuiltinType (Operand.U8U8 builtin count) [] code.old
             locations.old }
@@ -247,7 +255,7 @@ impl Builder {
         kwnames: &[u16],
         code: &mut [u8],
         locations: &mut [u32],
-    ) -> Answer
+    ) -> Result<Builder, Refusal>
         ensures { outcome result code.new locations.new
             ≡ emit_of self CallFunctionKw (Operand.CallKw positional (length kwnames.now % 256))
             kwnames.now code.old locations.old }
@@ -273,7 +281,7 @@ impl Builder {
         kwnames: &[u16],
         code: &mut [u8],
         locations: &mut [u32],
-    ) -> Answer
+    ) -> Result<Builder, Refusal>
         ensures { outcome result code.new locations.new
             ≡ emit_of self CallAttrKw (Operand.CallAttrKw attribute positional (length kwnames.now % 256))
             kwnames.now code.old locations.old }
@@ -303,56 +311,61 @@ impl Builder {
         code: &mut [u8],
         locations: &mut [u32],
         marks: &mut [u32],
-    ) -> Jumped
+    ) -> Result<(Builder, JumpLabel), Refusal>
         ensures { jump_outcome result code.new locations.new marks.new
             ≡ emit_jump_of self opcode code.old locations.old marks.old }
     {
         let core = self.core;
-        let location = self.location;
-        let plan = forward::decide_jump(
+        let decision = forward::decide_jump(
             core,
-            location,
+            self.location,
             opcode,
             code.len(),
             locations.len(),
             marks.len(),
+        )?;
+        let Some(plan) = decision else {
+            return Ok((self, JumpLabel::Dead));
+        };
+        let next = forward::commit_jump(
+            core,
+            self.location,
+            opcode,
+            plan.size,
+            plan.after,
+            plan.word,
+            code,
+            locations,
+            marks,
         );
-        match plan {
-            Plan::Idle => Jumped::Made(self, JumpLabel::Dead),
-            Plan::Refuse(refusal) => Jumped::Refused(refusal),
-            Plan::Go(after, t, size) => {
-                let row = core.marks;
-                let next = forward::commit_jump(
-                    core, location, opcode, size, after, t, code, locations, marks,
-                );
-                Jumped::Made(state::with_core(self, next), JumpLabel::Row(row))
-            }
-        }
+        Ok((Builder { core: next, ..self }, JumpLabel::Row(core.marks)))
     }
 
     // Has a forward jump go to where the code now ends. Dead code is live again, at the label's depth.
     // Refuses 19, then, of a label that is not Dead, 13, 14, 11, 6.
-    pub fn patch_jump(self, label: JumpLabel, code: &mut [u8], marks: &mut [u32]) -> Answer
+    pub fn patch_jump(
+        self,
+        label: JumpLabel,
+        code: &mut [u8],
+        marks: &mut [u32],
+    ) -> Result<Builder, Refusal>
         ensures { patch_outcome result code.new marks.new
             ≡ patch_jump_of self label code.old marks.old }
     {
         let core = self.core;
         if !marks::counts_sound(core, code.len(), marks.len()) {
-            return Answer::Refused(Refusal::Unsound);
+            return Err(Refusal::Unsound);
         }
         let JumpLabel::Row(i) = label else {
-            return Answer::Accepted(self);
+            return Ok(self);
         };
         let mark = marks::mark_in(core.marks, marks, i);
-        let plan = patch::decide_mark(mark, core);
-        match plan {
-            PatchPlan::Idle => Answer::Accepted(self),
-            PatchPlan::Refuse(refusal) => Answer::Refused(refusal),
-            PatchPlan::Go(after, w, offset) => {
-                let next = patch::commit_patch(core, i, offset, w, after, code, marks);
-                Answer::Accepted(state::with_core(self, next))
-            }
-        }
+        let decision = patch::decide_mark(mark, core)?;
+        let Some(plan) = decision else {
+            return Ok(self);
+        };
+        let next = patch::commit_patch(core, i, plan.offset, plan.word, plan.after, code, marks);
+        Ok(Builder { core: next, ..self })
     }
 
     // Emits a jump back to a known target.
@@ -364,18 +377,25 @@ impl Builder {
         code: &mut [u8],
         locations: &mut [u32],
         marks: &[u32],
-    ) -> Answer
+    ) -> Result<Builder, Refusal>
         ensures { outcome result code.new locations.new
             ≡ emit_jump_to_of self opcode target code.old locations.old marks.now }
     {
-        let core = self.core;
-        let location = self.location;
-        let JumpTarget::Row(row) = target else {
-            let refused = back::jump_nowhere(core, location, opcode, code, locations, marks);
-            return state::answer_by(self, refused);
+        let core = match target {
+            JumpTarget::Dead => {
+                back::jump_nowhere(self.core, self.location, opcode, code, locations, marks)?
+            }
+            JumpTarget::Row(row) => back::jump_to_core(
+                self.core,
+                self.location,
+                opcode,
+                row,
+                code,
+                locations,
+                marks,
+            )?,
         };
-        let answer = back::jump_to_core(core, location, opcode, row, code, locations, marks);
-        state::answer_by(self, answer)
+        Ok(Builder { core, ..self })
     }
 
     // Answers where the next instruction will stand.
@@ -383,8 +403,7 @@ impl Builder {
     pub fn current_offset(self) -> usize
         ensures { result ≡ self.core.code }
     {
-        let core = self.core;
-        core.code
+        self.core.code
     }
 
     // Answers the source range that was set, for diagnostics; 0, 0 where none was.
@@ -392,78 +411,87 @@ impl Builder {
     pub fn current_position(self) -> CodeRange
         ensures { result ≡ position_of self.location }
     {
-        let location = self.location;
-        match location {
-            Location::Unset => CodeRange { start: 0, end: 0 },
-            Location::Set(range, _) => range,
+        match self.location {
+            None => CodeRange { start: 0, end: 0 },
+            Some(set) => set.range,
         }
     }
 
     // Answers the place and the depth here as a target to jump back to. In dead code the target is Dead.
     // Refuses 19, then, live, 18.
-    pub fn current_jump_target(self, marks: &mut [u32]) -> Targeted
+    pub fn current_jump_target(self, marks: &mut [u32]) -> Result<(Builder, JumpTarget), Refusal>
         ensures { target_outcome result marks.new ≡ target_of self marks.old }
     {
         let core = self.core;
         if CODE_LIMIT < core.code {
-            return Targeted::Refused(Refusal::Unsound);
+            return Err(Refusal::Unsound);
         }
         if marks.len() / MARK_CELLS < core.marks {
-            return Targeted::Refused(Refusal::Unsound);
+            return Err(Refusal::Unsound);
         }
-        let depth = core.depth;
-        let Depth::Live(d) = depth else {
-            return Targeted::Made(self, JumpTarget::Dead);
+        let Some(d) = core.depth else {
+            return Ok((self, JumpTarget::Dead));
         };
         marks::mark_target(self, d, marks)
     }
 
     // Names the slots 0, 1, .. in one pass, before any other name.
     // Refuses 19, 16, 18.
-    pub fn register_local_names(self, names: &[u32], table: &mut [u64]) -> Answer
+    pub fn register_local_names(self, names: &[u32], table: &mut [u64]) -> Result<Builder, Refusal>
         ensures { kept result table.new ≡ register_names_of self names.now table.old }
     {
         let core = self.core;
         let held = self.names;
         if CODE_LIMIT < core.code {
-            return Answer::Refused(Refusal::Unsound);
+            return Err(Refusal::Unsound);
         }
         if table.len() < held {
-            return Answer::Refused(Refusal::Unsound);
+            return Err(Refusal::Unsound);
         }
         if held != 0 {
-            return Answer::Refused(Refusal::NamesHeld);
+            return Err(Refusal::NamesHeld);
         }
         if table.len() < names.len() {
-            return Answer::Refused(Refusal::Full(Table::Names));
+            return Err(Refusal::Full(Table::Names));
         }
         names::fill_names(table, names);
-        Answer::Accepted(names::with_names(self, names.len()))
+        Ok(Builder {
+            names: names.len(),
+            ..self
+        })
     }
 
     // Names a slot, where it has no name yet: the first name stays.
     // Refuses 19, 18.
-    pub fn register_local_name(self, slot: u16, name: u32, table: &mut [u64]) -> Answer
+    pub fn register_local_name(
+        self,
+        slot: u16,
+        name: u32,
+        table: &mut [u64],
+    ) -> Result<Builder, Refusal>
         ensures { kept result table.new ≡ register_name_of self slot name table.old }
     {
         let core = self.core;
         let held = self.names;
         if CODE_LIMIT < core.code {
-            return Answer::Refused(Refusal::Unsound);
+            return Err(Refusal::Unsound);
         }
         if table.len() < held {
-            return Answer::Refused(Refusal::Unsound);
+            return Err(Refusal::Unsound);
         }
         let at = slot as usize;
         if at < held {
             table[at] = names::named_cell(table[at], name);
-            return Answer::Accepted(self);
+            return Ok(self);
         }
         if table.len() <= at {
-            return Answer::Refused(Refusal::Full(Table::Names));
+            return Err(Refusal::Full(Table::Names));
         }
         names::extend(&mut table[held..], at - held, name);
-        Answer::Accepted(names::with_names(self, at + 1))
+        Ok(Builder {
+            names: at + 1,
+            ..self
+        })
     }
 
     // Emits RaiseUnboundLocal with the name that the error reports.
@@ -473,7 +501,7 @@ impl Builder {
         name: u32,
         code: &mut [u8],
         locations: &mut [u32],
-    ) -> Answer
+    ) -> Result<Builder, Refusal>
         ensures { outcome result code.new locations.new
             ≡ emit_named self RaiseUnboundLocal name (Operand.U16 (name % 65536)) [] code.old
             locations.old }
@@ -491,7 +519,12 @@ impl Builder {
 
     // Emits the shortest load of a slot: 0 to 3 have opcodes of their own, then a byte, then a word.
     // Refuses 19, then, live, 5, 18.
-    pub fn emit_load_local(self, slot: u16, code: &mut [u8], locations: &mut [u32]) -> Answer
+    pub fn emit_load_local(
+        self,
+        slot: u16,
+        code: &mut [u8],
+        locations: &mut [u32],
+    ) -> Result<Builder, Refusal>
         ensures { outcome result code.new locations.new
             ≡ emit_of self (load_op slot) (load_operand slot) [] code.old locations.old }
     {
@@ -512,7 +545,7 @@ impl Builder {
         name: u32,
         code: &mut [u8],
         locations: &mut [u32],
-    ) -> Answer
+    ) -> Result<Builder, Refusal>
         ensures { outcome result code.new locations.new
             ≡ emit_named self LoadGlobalCallable name (Operand.U16U16 slot (name % 65536)) [] code.old
             locations.old }
@@ -538,7 +571,7 @@ impl Builder {
         flags: u8,
         code: &mut [u8],
         locations: &mut [u32],
-    ) -> Answer
+    ) -> Result<Builder, Refusal>
         ensures { outcome result code.new locations.new
             ≡ emit_named self opcode name (Operand.U16U16U8 slot (name % 65536) flags) [] code.old
             locations.old }
@@ -556,7 +589,12 @@ impl Builder {
 
     // Emits the shorter store of a slot. Slots 0 to 3 have no opcodes of their own here.
     // Refuses 19, then, live, 4, 18.
-    pub fn emit_store_local(self, slot: u16, code: &mut [u8], locations: &mut [u32]) -> Answer
+    pub fn emit_store_local(
+        self,
+        slot: u16,
+        code: &mut [u8],
+        locations: &mut [u32],
+    ) -> Result<Builder, Refusal>
         ensures { outcome result code.new locations.new
             ≡ emit_of self (store_op slot) (store_operand slot) [] code.old locations.old }
     {
@@ -579,39 +617,53 @@ impl Builder {
         kwnames: &[u16],
         code: &mut [u8],
         locations: &mut [u32],
-    ) -> Answer
+    ) -> Result<Builder, Refusal>
         ensures { outcome result code.new locations.new
             ≡ numbered_of self call opcode a b c kwnames.now code.old locations.old }
     {
         let names = names::count_byte(kwnames.len());
         let instruction = numbered::of_call(call, opcode, a, b, c, names);
-        let Instruction::Is(chosen, name, operand) = instruction else {
-            return Answer::Refused(Refusal::WrongShape);
+        let Some(chosen) = instruction else {
+            return Err(Refusal::WrongShape);
         };
-        emission::emit_with_names(self, chosen, name, operand, kwnames, code, locations)
+        emission::emit_with_names(
+            self,
+            chosen.opcode,
+            chosen.name,
+            chosen.operand,
+            kwnames,
+            code,
+            locations,
+        )
     }
 
     // Adds a constant, and answers its index.
     // Refuses 19, 9, 18.
-    pub fn add_const(self, value: u64, constants: &mut [u64]) -> Added
+    pub fn add_const(self, value: u64, constants: &mut [u64]) -> Result<(Builder, u16), Refusal>
         ensures { added_kept result constants.new ≡ add_const_of self value constants.old }
     {
         let core = self.core;
         let row = self.constants;
         if CODE_LIMIT < core.code {
-            return Added::Refused(Refusal::Unsound);
+            return Err(Refusal::Unsound);
         }
         if constants.len() < row {
-            return Added::Refused(Refusal::Unsound);
+            return Err(Refusal::Unsound);
         }
         if (WORD_MAX as usize) < row {
-            return Added::Refused(Refusal::TooManyConstants);
+            return Err(Refusal::TooManyConstants);
         }
         if constants.len() <= row {
-            return Added::Refused(Refusal::Full(Table::Constants));
+            return Err(Refusal::Full(Table::Constants));
         }
         tables::row1(&mut constants[row..], value);
-        Added::Made(constants::with_constants(self, row + 1), row as u16)
+        Ok((
+            Builder {
+                constants: row + 1,
+                ..self
+            },
+            row as u16,
+        ))
     }
 
     // Adds an exception handler. For nested blocks the innermost comes first.
@@ -625,7 +677,7 @@ impl Builder {
         exception_stack_count: u16,
         kind: HandlerKind,
         exceptions: &mut [u32],
-    ) -> Answer
+    ) -> Result<Builder, Refusal>
         ensures { kept result exceptions.new
             ≡ add_exception_of self start end handler stack_depth exception_stack_count kind
             exceptions.old }
@@ -633,16 +685,16 @@ impl Builder {
         let core = self.core;
         let row = self.exceptions;
         if CODE_LIMIT < core.code {
-            return Answer::Refused(Refusal::Unsound);
+            return Err(Refusal::Unsound);
         }
         if exceptions.len() / EXCEPTION_CELLS < row {
-            return Answer::Refused(Refusal::Unsound);
+            return Err(Refusal::Unsound);
         }
         if !exceptions::offsets_fit(start, end, handler) {
-            return Answer::Refused(Refusal::TooLarge);
+            return Err(Refusal::TooLarge);
         }
         if exceptions.len() / EXCEPTION_CELLS <= row {
-            return Answer::Refused(Refusal::Full(Table::Exceptions));
+            return Err(Refusal::Full(Table::Exceptions));
         }
         let base = row * EXCEPTION_CELLS;
         tables::row6(
@@ -654,17 +706,18 @@ impl Builder {
             exception_stack_count as u32,
             exceptions::kind_number(kind),
         );
-        Answer::Accepted(exceptions::with_exceptions(self, row + 1))
+        Ok(Builder {
+            exceptions: row + 1,
+            ..self
+        })
     }
 
     // Answers the depth here; none in dead code.
     // Never refuses.
-    pub fn stack_depth(self) -> Depth
+    pub fn stack_depth(self) -> Option<u16>
         ensures { result ≡ self.core.depth }
     {
-        let core = self.core;
-        let depth = core.depth;
-        depth
+        self.core.depth
     }
 
     // Answers whether the code is dead.
@@ -672,53 +725,47 @@ impl Builder {
     pub fn is_dead(self) -> bool
         ensures { result ≡ dead_of self.core.depth }
     {
-        let core = self.core;
-        let depth = core.depth;
-        match depth {
-            Depth::Dead => true,
-            Depth::Live(_) => false,
-        }
+        self.core.depth.is_none()
     }
 
     // Finishes the body: slots without a name get `fill`.
     // Refuses 19, 17.
-    pub fn build(self, fill: u32, names: &mut [u64], marks: &[u32]) -> Answer
+    pub fn build(self, fill: u32, names: &mut [u64], marks: &[u32]) -> Result<Builder, Refusal>
         ensures { kept result names.new ≡ build_of self fill names.old marks.now }
     {
         let core = self.core;
         let held = self.names;
         if CODE_LIMIT < core.code {
-            return Answer::Refused(Refusal::Unsound);
+            return Err(Refusal::Unsound);
         }
         if names.len() < held {
-            return Answer::Refused(Refusal::Unsound);
+            return Err(Refusal::Unsound);
         }
         if marks.len() / MARK_CELLS < core.marks {
-            return Answer::Refused(Refusal::Unsound);
+            return Err(Refusal::Unsound);
         }
         if marks::any_open(core.marks, marks) {
-            return Answer::Refused(Refusal::OpenLabel);
+            return Err(Refusal::OpenLabel);
         }
         names::fill_absent(&mut names[..held], fill);
-        Answer::Accepted(self)
+        Ok(self)
     }
 
     // Opens a region of live code at a depth that comes from outside: a body's first, or an exception handler's.
     // Refuses 19, 15, 18.
-    pub fn new_code_region(self, depth: u16, starts: &mut [u32]) -> Answer
+    pub fn new_code_region(self, depth: u16, starts: &mut [u32]) -> Result<Builder, Refusal>
         ensures { kept result starts.new ≡ region_of self depth starts.old }
     {
         let core = self.core;
         if CODE_LIMIT < core.code {
-            return Answer::Refused(Refusal::Unsound);
+            return Err(Refusal::Unsound);
         }
         if starts.len() / START_CELLS < self.starts {
-            return Answer::Refused(Refusal::Unsound);
+            return Err(Refusal::Unsound);
         }
-        let here = core.depth;
-        let Depth::Dead = here else {
-            return Answer::Refused(Refusal::RegionWhileLive);
-        };
+        if let Some(_) = core.depth {
+            return Err(Refusal::RegionWhileLive);
+        }
         regions::store_start(self, depth, starts)
     }
 }

@@ -4,16 +4,14 @@ ghost use Rattle.code.specs.Tables.{code_limit};
 ghost use Rattle.builder.specs.Emission.{core_outcome, core_with, emit_core, emit_named, outcome};
 ghost use Rattle.builder.specs.Inner.{Committed, Goes};
 
-use crate::plan::Plan;
-use crate::state::CoreAnswer;
-use crate::{Answer, Builder, Core, Depth, Location, locations, plan, state};
+use crate::{Builder, Core, Location, locations, plan};
 use code::writer;
-use op::Operand;
+use op::{Operand, Refusal};
 
 // One instruction and its location's row, at the used ends; the rows then used.
 pub fn commit(
     core: Core,
-    location: Location,
+    location: Option<Location>,
     opcode: u8,
     operand: Operand,
     kwnames: &[u16],
@@ -26,20 +24,20 @@ pub fn commit(
         locations.old result code.new locations.new }
 {
     let at = core.code;
-    writer::write(&mut code[at..], opcode, operand, kwnames);
+    let _ = writer::write(&mut code[at..], opcode, operand, kwnames);
     locations::write_location(location, core.locations, at, locations)
 }
 
 // The core behind an instruction of so many bytes, with so many location rows.
-pub fn grown(core: Core, rows: usize, size: usize, after: Depth) -> Core
+pub fn grown(core: Core, rows: usize, size: usize, after: Option<u16>) -> Core
     requires { core.code + size ≤ code_limit }
     ensures { result ≡ core_with core rows size after }
 {
     Core {
         code: core.code + size,
         locations: rows,
-        marks: core.marks,
         depth: after,
+        ..core
     }
 }
 
@@ -47,19 +45,19 @@ pub fn grown(core: Core, rows: usize, size: usize, after: Depth) -> Core
 // the state in memory.
 fn emit_core(
     core: Core,
-    location: Location,
+    location: Option<Location>,
     opcode: u8,
     name: u32,
     operand: Operand,
     kwnames: &[u16],
     code: &mut [u8],
     locations: &mut [u32],
-) -> CoreAnswer
+) -> Result<Core, Refusal>
     ensures { core_outcome result code.new locations.new
         ≡ emit_core core location opcode name operand kwnames.now code.old
         locations.old }
 {
-    let plan = plan::decide(
+    let decision = plan::decide(
         core,
         location,
         opcode,
@@ -68,23 +66,20 @@ fn emit_core(
         kwnames.len(),
         code.len(),
         locations.len(),
+    )?;
+    let Some(plan) = decision else {
+        return Ok(core);
+    };
+    let rows = commit(
+        core,
+        location,
+        opcode,
+        operand,
+        &kwnames[0..],
+        code,
+        locations,
     );
-    match plan {
-        Plan::Idle => CoreAnswer::Accepted(core),
-        Plan::Refuse(refusal) => CoreAnswer::Refused(refusal),
-        Plan::Go(after, _, size) => {
-            let rows = commit(
-                core,
-                location,
-                opcode,
-                operand,
-                &kwnames[0..],
-                code,
-                locations,
-            );
-            CoreAnswer::Accepted(grown(core, rows, size, after))
-        }
-    }
+    Ok(grown(core, rows, plan.size, plan.after))
 }
 
 // Emits an instruction with its keyword names, records its location and follows the depth. In dead code nothing
@@ -97,16 +92,14 @@ pub fn emit_with_names(
     kwnames: &[u16],
     code: &mut [u8],
     locations: &mut [u32],
-) -> Answer
+) -> Result<Builder, Refusal>
     ensures { outcome result code.new locations.new
         ≡ emit_named b opcode name operand kwnames.now code.old locations.old }
 {
-    let core = b.core;
-    let location = b.location;
-    let answer = emit_core(
-        core, location, opcode, name, operand, kwnames, code, locations,
-    );
-    state::answer_by(b, answer)
+    let core = emit_core(
+        b.core, b.location, opcode, name, operand, kwnames, code, locations,
+    )?;
+    Ok(Builder { core, ..b })
 }
 
 // The same of an instruction that has no keyword names.
@@ -117,15 +110,19 @@ pub fn emit_with_operand(
     operand: Operand,
     code: &mut [u8],
     locations: &mut [u32],
-) -> Answer
+) -> Result<Builder, Refusal>
     ensures { outcome result code.new locations.new
         ≡ emit_named b opcode name operand [] code.old locations.old }
 {
-    let core = b.core;
-    let location = b.location;
-    let none: [u16; 0] = [];
-    let answer = emit_core(
-        core, location, opcode, name, operand, &none, code, locations,
-    );
-    state::answer_by(b, answer)
+    let core = emit_core(
+        b.core,
+        b.location,
+        opcode,
+        name,
+        operand,
+        &[],
+        code,
+        locations,
+    )?;
+    Ok(Builder { core, ..b })
 }

@@ -3,63 +3,56 @@ ghost use Rattle.builder.specs.Forward.{jump_asked, jump_plan_of};
 ghost use Rattle.builder.specs.Inner.{JumpCommitted, JumpGoes, Lives};
 ghost use Rattle.std.specs.Prelude.{length, ◌≡◌};
 
-use crate::plan::{Entered, Plan};
-use crate::{Core, Depth, Location, emission, marks, plan, tables};
+use crate::plan::Decision;
+use crate::{Core, Location, emission, marks, plan, tables};
 use code::MARK_CELLS;
-use op::{After, Operand, Table, depths};
+use op::{Operand, Table, depths};
 
 // What is decided of a forward jump in live code, at depth `d`.
 fn decide_jump_live(
     core: Core,
-    location: Location,
+    location: Option<Location>,
     d: u16,
     opcode: u8,
     cl: usize,
     ll: usize,
     ml: usize,
-) -> Plan
+) -> Decision
     requires { Lives (jump_asked core location opcode cl ll ml) d }
     ensures { result ≡ jump_plan_of core location opcode cl ll ml }
 {
-    let taken = depths::taken(d, opcode);
-    match taken {
-        After::Refused(refusal) => Plan::Refuse(refusal),
-        After::Depth(t) => {
-            let bytes = plan::decide_bytes(core, d, opcode, Operand::Offset(0), 0, t, cl);
-            let plan = plan::also_location(bytes, location, core.locations, ll);
-            plan::also_row(plan, core.marks < ml / MARK_CELLS, Table::Marks)
-        }
-    }
+    let t = depths::taken(d, opcode)?;
+    let bytes = plan::decide_bytes(core, d, opcode, Operand::Offset(0), 0, t, cl);
+    let located = plan::also_location(bytes, location, core.locations, ll);
+    plan::also_row(located, core.marks < ml / MARK_CELLS, Table::Marks)
 }
 
 // What a forward jump is to do.
 pub fn decide_jump(
     core: Core,
-    location: Location,
+    location: Option<Location>,
     opcode: u8,
     cl: usize,
     ll: usize,
     ml: usize,
-) -> Plan
+) -> Decision
     ensures { result ≡ jump_plan_of core location opcode cl ll ml }
 {
-    let depth = core.depth;
     let sound = plan::sound_with_marks(core, cl, ll, ml);
-    let entered = plan::enter(sound, opcode, 0, depth);
-    match entered {
-        Entered::Dead => Plan::Idle,
-        Entered::Refused(refusal) => Plan::Refuse(refusal),
-        Entered::Live(d) => decide_jump_live(core, location, d, opcode, cl, ll, ml),
-    }
+    let entered = plan::enter(sound, opcode, 0, core.depth)?;
+    let Some(d) = entered else {
+        return Ok(None);
+    };
+    decide_jump_live(core, location, d, opcode, cl, ll, ml)
 }
 
 // The jump with no displacement yet, its location's row, and its mark; the core then.
 pub fn commit_jump(
     core: Core,
-    location: Location,
+    location: Option<Location>,
     opcode: u8,
     size: usize,
-    after: Depth,
+    after: Option<u16>,
     t: u16,
     code: &mut [u8],
     locations: &mut [u32],
@@ -70,13 +63,12 @@ pub fn commit_jump(
     ensures { JumpCommitted core location opcode size after t code.old locations.old
         marks.old result code.new locations.new marks.new }
 {
-    let none: [u16; 0] = [];
     let rows = emission::commit(
         core,
         location,
         opcode,
         Operand::Offset(0),
-        &none,
+        &[],
         code,
         locations,
     );

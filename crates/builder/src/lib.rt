@@ -2,8 +2,7 @@
 // lent, and each call decides before it writes, so that a refusal changes neither.
 #![tactic(auto)]
 
-use code::{CodeRange, Focus};
-use op::Refusal;
+use code::CodeRange;
 
 // The front door: the 33 public calls, and the one that makes an emitting call by its number.
 mod calls;
@@ -18,51 +17,44 @@ mod forward;
 mod patch;
 
 // What the other calls are about, and what all share.
-mod constants;
 mod exceptions;
 mod locations;
 mod marks;
 mod names;
 mod numbered;
 mod regions;
-mod state;
 mod tables;
 
-// The operand stack's depth before the next instruction; none in dead code.
+// The source location of the instructions to come: the range, and the part of it that a traceback points at.
 #[derive(Clone, Copy)]
-pub enum Depth {
-    Dead,
-    Live(u16),
+pub struct Location {
+    pub range: CodeRange,
+    pub focus: Option<CodeRange>,
 }
 
-// The source location of the instructions to come.
-#[derive(Clone, Copy)]
-pub enum Location {
-    Unset,
-    Set(CodeRange, Focus),
-}
-
-// What emission reads and changes: the used rows of code, locations and marks, and the depth.
+// What emission reads and changes: the used rows of code, locations and marks, and the operand stack's depth before the
+// next instruction, none in dead code.
 #[derive(Clone, Copy)]
 pub struct Core {
     pub code: usize,
     pub locations: usize,
     pub marks: usize,
-    pub depth: Depth,
+    pub depth: Option<u16>,
 }
 
 // The state: the used rows of every table, the depth and the location. Nothing of it is trusted.
 #[derive(Clone, Copy)]
 pub struct Builder {
     pub core: Core,
-    pub location: Location,
+    pub location: Option<Location>,
     pub exceptions: usize,
     pub constants: usize,
     pub names: usize,
     pub starts: usize,
 }
 
-// A forward jump that waits for `patch_jump`: a row of the marks.
+// A forward jump that waits for `patch_jump`: a row of the marks. A label and a target are enums of their own and no
+// `Option<usize>`, so that neither can be passed for the other.
 #[derive(Clone, Copy)]
 pub enum JumpLabel {
     Dead,
@@ -74,30 +66,4 @@ pub enum JumpLabel {
 pub enum JumpTarget {
     Dead,
     Row(usize),
-}
-
-// The state after a call, or why there is none.
-#[derive(Clone, Copy)]
-pub enum Answer {
-    Accepted(Builder),
-    Refused(Refusal),
-}
-
-#[derive(Clone, Copy)]
-pub enum Jumped {
-    Made(Builder, JumpLabel),
-    Refused(Refusal),
-}
-
-#[derive(Clone, Copy)]
-pub enum Targeted {
-    Made(Builder, JumpTarget),
-    Refused(Refusal),
-}
-
-// The state after a constant was added, and its index.
-#[derive(Clone, Copy)]
-pub enum Added {
-    Made(Builder, u16),
-    Refused(Refusal),
 }

@@ -6,40 +6,45 @@ ghost use Rattle.code.specs.Tables.{code_limit, location_cells};
 ghost use Rattle.code.specs.Bytes.{front};
 
 use crate::{Location, tables};
-use code::{CodeRange, Focus, LOCATION_CELLS};
+use code::{CodeRange, LOCATION_CELLS};
 
 // Whether a location that is set has room for its row.
-pub fn row_fits(location: Location, rows: usize, ll: usize) -> bool
+pub fn row_fits(location: Option<Location>, rows: usize, ll: usize) -> bool
     ensures { result ≡ row_fits location rows ll }
 {
-    let Location::Set(_, _) = location else {
-        return true;
-    };
-    rows < ll / LOCATION_CELLS
+    match location {
+        None => true,
+        Some(_) => rows < ll / LOCATION_CELLS,
+    }
 }
 
 // A location's row at the front.
-fn write_row(out: &mut [u32], offset: u32, range: CodeRange, focus: Focus)
+fn write_row(out: &mut [u32], offset: u32, range: CodeRange, focus: Option<CodeRange>)
     requires { location_cells ≤ length out.old }
     ensures { out.new ≡ front (location_numbers (location_at offset range focus)) out.old }
 {
     match focus {
-        Focus::Absent => tables::row6(out, offset, range.start, range.end, 0, 0, 0),
-        Focus::Present(f) => tables::row6(out, offset, range.start, range.end, 1, f.start, f.end),
+        None => tables::row6(out, offset, range.start, range.end, 0, 0, 0),
+        Some(f) => tables::row6(out, offset, range.start, range.end, 1, f.start, f.end),
     }
 }
 
 // A location's row at the used end, where a location is set; the rows then used.
-pub fn write_location(location: Location, rows: usize, at: usize, locations: &mut [u32]) -> usize
+pub fn write_location(
+    location: Option<Location>,
+    rows: usize,
+    at: usize,
+    locations: &mut [u32],
+) -> usize
     requires { (at ≤ code_limit) × (row_fits location rows (length locations.old) ≡ true) }
     ensures { (result ≡ rows_after location rows)
         × (locations.new ≡ locations_after location rows at locations.old) }
 {
-    let Location::Set(range, focus) = location else {
+    let Some(set) = location else {
         return rows;
     };
     let base = rows * LOCATION_CELLS;
     let offset = at as u32;
-    write_row(&mut locations[base..], offset, range, focus);
+    write_row(&mut locations[base..], offset, set.range, set.focus);
     rows + 1
 }

@@ -4,7 +4,7 @@ ghost use Rattle.builder.specs.Marks.{target_outcome, target_at, any_open, mark_
 ghost use Rattle.builder.specs.Marks.{markable, near, bits, meets, revived};
 ghost use Rattle.code.specs.Tables.{code_limit, mark_cells, jump_size};
 
-use crate::{Builder, Core, Depth, JumpTarget, Targeted, state, tables};
+use crate::{Builder, Core, JumpTarget, tables};
 use code::{CODE_LIMIT, JUMP_SIZE, MARK_CELLS, WORD_MAX};
 use op::{Refusal, Table};
 
@@ -107,22 +107,22 @@ pub fn bits_of(from: usize, to: usize) -> u16
 }
 
 // Whether a label's depth is the one here; dead code has none.
-pub fn meets_depth(here: Depth, depth: u32) -> bool
+pub fn meets_depth(here: Option<u16>, depth: u32) -> bool
     ensures { result ≡ meets here depth }
 {
     match here {
-        Depth::Dead => true,
-        Depth::Live(e) => e as u32 == depth,
+        None => true,
+        Some(e) => e as u32 == depth,
     }
 }
 
 // The depth behind a patched label.
-pub fn revive(here: Depth, depth: u16) -> Depth
+pub fn revive(here: Option<u16>, depth: u16) -> Option<u16>
     ensures { result ≡ revived here depth }
 {
     match here {
-        Depth::Dead => Depth::Live(depth),
-        Depth::Live(e) => Depth::Live(e),
+        None => Some(depth),
+        Some(e) => Some(e),
     }
 }
 
@@ -142,24 +142,21 @@ pub fn any_open(rows: usize, marks: &[u32]) -> bool
 }
 
 // A target's mark at the used end; `d` is the depth here.
-pub fn mark_target(b: Builder, d: u16, marks: &mut [u32]) -> Targeted
+pub fn mark_target(b: Builder, d: u16, marks: &mut [u32]) -> Result<(Builder, JumpTarget), Refusal>
     requires { b.core.code ≤ code_limit }
-    ensures { target_outcome result marks.new ≡ target_at (Depth.Live d) b marks.old }
+    ensures { target_outcome result marks.new ≡ target_at (Some d) b marks.old }
 {
     let core = b.core;
     let row = core.marks;
     if marks.len() / MARK_CELLS <= row {
-        return Targeted::Refused(Refusal::Full(Table::Marks));
+        return Err(Refusal::Full(Table::Marks));
     }
     let base = row * MARK_CELLS;
     let at = core.code;
     tables::row4(&mut marks[base..], TARGET, at as u32, d as u32, 0);
-    let depth = core.depth;
-    let next = Core {
-        code: at,
-        locations: core.locations,
+    let core = Core {
         marks: row + 1,
-        depth,
+        ..core
     };
-    Targeted::Made(state::with_core(b, next), JumpTarget::Row(row))
+    Ok((Builder { core, ..b }, JumpTarget::Row(row)))
 }

@@ -6,59 +6,61 @@ ghost use Rattle.builder.specs.Patch.{mark_plan_of, open_plan};
 ghost use Rattle.builder.specs.Inner.{PatchCommitted};
 
 use crate::marks::Mark;
-use crate::{Core, Depth, marks, tables};
+use crate::{Core, marks, tables};
 use code::MARK_CELLS;
 use op::Refusal;
 
-// What a patch is to do: nothing, of a label that was made in dead code; refuse; or write.
+// What a patch is to write: the depth then, the displacement, and the offset of the jump.
 #[derive(Clone, Copy)]
-pub enum PatchPlan {
-    Idle,
-    Refuse(Refusal),
-    // the depth then, the displacement, and the offset of the jump
-    Go(Depth, u16, usize),
+pub struct PatchPlan {
+    pub after: Option<u16>,
+    pub word: u16,
+    pub offset: usize,
 }
 
+// What a patch is to do: write, nothing of a label that was made in dead code, or refuse.
+pub type PatchDecision = Result<Option<PatchPlan>, Refusal>;
+
 // An open label's mark: 11, then 6.
-fn decide_open(core: Core, offset: u32, depth: u32) -> PatchPlan
+fn decide_open(core: Core, offset: u32, depth: u32) -> PatchDecision
     requires { (core.code ≤ code_limit) × (depth ≤ word_max) }
     ensures { result ≡ open_plan (Mark.Open offset depth) core }
 {
     let here = core.depth;
     if !marks::meets_depth(here, depth) {
-        return PatchPlan::Refuse(Refusal::DepthsDiffer);
+        return Err(Refusal::DepthsDiffer);
     }
     let from = offset as usize;
     if !marks::is_near(from, core.code) {
-        return PatchPlan::Refuse(Refusal::JumpTooFar);
+        return Err(Refusal::JumpTooFar);
     }
-    PatchPlan::Go(
-        marks::revive(here, depth as u16),
-        marks::bits_of(from, core.code),
-        from,
-    )
+    Ok(Some(PatchPlan {
+        after: marks::revive(here, depth as u16),
+        word: marks::bits_of(from, core.code),
+        offset: from,
+    }))
 }
 
 // A mark that can be, by its kind.
-fn decide_kind(mark: Mark, core: Core) -> PatchPlan
+fn decide_kind(mark: Mark, core: Core) -> PatchDecision
     requires { (core.code ≤ code_limit) × (mark_sound core.code mark ≡ true) }
     ensures { result ≡ open_plan mark core }
 {
     match mark {
-        Mark::Absent => PatchPlan::Refuse(Refusal::NoSuchMark),
-        Mark::Target(_, _) => PatchPlan::Refuse(Refusal::NoSuchMark),
-        Mark::Patched(_, _) => PatchPlan::Refuse(Refusal::AlreadyPatched),
+        Mark::Absent => Err(Refusal::NoSuchMark),
+        Mark::Target(_, _) => Err(Refusal::NoSuchMark),
+        Mark::Patched(_, _) => Err(Refusal::AlreadyPatched),
         Mark::Open(offset, depth) => decide_open(core, offset, depth),
     }
 }
 
 // What a patch of this mark is to do.
-pub fn decide_mark(mark: Mark, core: Core) -> PatchPlan
+pub fn decide_mark(mark: Mark, core: Core) -> PatchDecision
     requires { core.code ≤ code_limit }
     ensures { result ≡ mark_plan_of mark core }
 {
     if !marks::mark_sound(core.code, mark) {
-        return PatchPlan::Refuse(Refusal::Unsound);
+        return Err(Refusal::Unsound);
     }
     decide_kind(mark, core)
 }
@@ -69,7 +71,7 @@ pub fn commit_patch(
     i: usize,
     offset: usize,
     w: u16,
-    after: Depth,
+    after: Option<u16>,
     code: &mut [u8],
     marks: &mut [u32],
 ) -> Core
@@ -82,9 +84,7 @@ pub fn commit_patch(
     let base = i * MARK_CELLS;
     marks[base] = marks::PATCHED;
     Core {
-        code: core.code,
-        locations: core.locations,
-        marks: core.marks,
         depth: after,
+        ..core
     }
 }

@@ -43,7 +43,6 @@ returns c =
       le-leb _ _ c.if-constants-row.false,
       le-leb _ _ c.if-row.false,
       lt-ltb _ _ c.if-constants-row-2.false,
-      c.with_constants.ensures,
       c.row1.ensures,
       put_lent a.self.constants (a.value ∷ []) a.constants.now h,
     ) refl

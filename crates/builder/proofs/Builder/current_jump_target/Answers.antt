@@ -19,5 +19,5 @@ returns-in_default c = simp (le-leb _ _ c.if-core-gt-CODE_LIMIT.false, le-leb _ 
 pub returns : goal.returns
 unfolding target_of
 returns c =
-    simp (le-leb _ _ c.if-core-gt-CODE_LIMIT.false, le-leb _ _ c.if-marks-core.false, c.in-Live.is)
-    (rw c.in-Live.is at c.mark_target.ensures)
+    simp (le-leb _ _ c.if-core-gt-CODE_LIMIT.false, le-leb _ _ c.if-marks-core.false, c.in-Some.is)
+    (rw c.in-Some.is at c.mark_target.ensures)

@@ -3,5 +3,5 @@
 use mathlib.Core.Path.{refl}
 use Rattle.builder.proofs.Builder.current_position.Goals as goal
 
-pub returns-in-Unset : goal.returns-in-Unset
-returns-in-Unset c = rw c.in-Unset.is refl
+pub returns-in-None : goal.returns-in-None
+returns-in-None c = rw c.in-None.is refl

@@ -16,4 +16,4 @@ returns c =
     numbered_goes a.self a.call a.opcode a.a a.b a.c _ a.kwnames.now a.code.now
     a.locations.now _
     c.of_call-instruction.ensures c.count_byte-names.ensures _ _ _ _
-    c.in-Is.is c.emit_with_names.ensures
+    c.in-Some.is c.emit_with_names.ensures

@@ -13,11 +13,11 @@ returns-in_default c = rw (c.in_default.is, c.fresh_at.ensures) refl
 
 pub returns-then-starts-le0 : goal.returns-then-starts-le0
 unfolding new_of
-returns-then-starts-le0 c = rw (c.in-Live.is, le-ltb _ _ c.if-starts-le0.true) refl
+returns-then-starts-le0 c = rw (c.in-Some.is, le-ltb _ _ c.if-starts-le0.true) refl
 
 pub returns : goal.returns
 unfolding new_of
 returns c =
     let a = c.args in
-    rw (c.in-Live.is, lt-ltb _ _ c.if-starts-le0.false, c.fresh_at-2.ensures, c.row2.ensures)
+    rw (c.in-Some.is, lt-ltb _ _ c.if-starts-le0.false, c.fresh_at-2.ensures, c.row2.ensures)
     (ap (kept _) (put_front _ a.starts.now))

@@ -12,12 +12,12 @@ pub returns-then-starts-self : goal.returns-then-starts-self
 unfolding region_of
 returns-then-starts-self c = simp (le-leb _ _ c.if-core-gt-CODE_LIMIT.false, lt-leb _ _ c.if-starts-self.true)
 
-pub returns-in_default : goal.returns-in_default
+pub returns-in-Some : goal.returns-in-Some
 unfolding region_of
-returns-in_default c = simp (le-leb _ _ c.if-core-gt-CODE_LIMIT.false, le-leb _ _ c.if-starts-self.false, c.in_default.is)
+returns-in-Some c = simp (le-leb _ _ c.if-core-gt-CODE_LIMIT.false, le-leb _ _ c.if-starts-self.false, c.in-Some.is)
 
 pub returns : goal.returns
 unfolding region_of
 returns c =
-    simp (le-leb _ _ c.if-core-gt-CODE_LIMIT.false, le-leb _ _ c.if-starts-self.false, c.in-Dead.is)
+    simp (le-leb _ _ c.if-core-gt-CODE_LIMIT.false, le-leb _ _ c.if-starts-self.false, c.in_default.is)
     c.store_start.ensures

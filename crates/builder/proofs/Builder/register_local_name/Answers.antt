@@ -49,7 +49,6 @@ returns c =
       le-leb _ _ c.if-table-held.false,
       le-ltb _ _ c.if-at-held.false,
       lt-ltb _ _ c.if-table-at.false,
-      c.with_names.ensures,
       c.extend.ensures,
       put_lent a.self.names (extension (a.slot - a.self.names) a.name) a.table.now h,
     ) refl

@@ -39,7 +39,6 @@ returns c =
       le-leb _ _ c.if-table-held.false,
       eq-eqb _ _ c.if-held-ne0.false,
       le-leb _ _ c.if-table-names.false,
-      c.with_names.ensures,
       c.fill_names.ensures,
     )
     (ap (kept _) (put_front _ a.table.now))

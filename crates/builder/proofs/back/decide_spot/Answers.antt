@@ -1,7 +1,7 @@
 -- `builder::back::decide_spot` meets its contract: an arm for each variant, and the line's tests.
 -- Assumes nothing.
+use Rattle.builder.specs.Plan.{Decision}
 use Rattle.builder.proofs.JumpPlans.{back_live, near_true, same_jump}
-use Rattle.builder.specs.declared.plan.Plan.{Plan}
 use Rattle.op.specs.declared.Table.TheVariants.{Locations}
 use Rattle.code.specs.Bytes.{signed}
 use borrow.Author.Tests.{eq-eqb, ne_eqb}
@@ -50,8 +50,8 @@ pub returns-else-not-is_near : goal.returns-else-not-is_near
 returns-else-not-is_near c row ml lives takes =
     let a = c.args in
     c.also_location.ensures
-    ∙ ap (λ (p : Plan). also_row p (row_fits a.location a.core.locations a.ll) Locations)
-    (c.decide_bytes-plan.ensures
+    ∙ ap (λ (p : Decision). also_row p (row_fits a.location a.core.locations a.ll) Locations)
+    (c.decide_bytes-decision.ensures
     ∙ same_jump a.core.code a.d a.opcode a.cl _ _ _
     (to_z-of_z {w = w16} (record { sfits = c.to_i16.type_inv }) ∙ c.to_i16.ensures
     ∙ ap (signed 65536) c.bits_of-word.ensures) c.bits_of-word.ensures)

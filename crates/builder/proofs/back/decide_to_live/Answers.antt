@@ -1,12 +1,13 @@
 -- `builder::back::decide_to_live` meets its contract: the taken depth is op's, and the arms are the line's.
 -- Assumes nothing.
+use Rattle.std.proofs.lemmas.Result.{err_from_is_err_and}
 use Rattle.builder.specs.Plan.{emitting_of}
 use mathlib.Core.Path.{◌∙◌, sym}
 use Rattle.builder.proofs.back.decide_to_live.Goals as goal
 
-pub returns-in-Refused : goal.returns-in-Refused
+pub returns-in_err-e : goal.returns-in_err-e
 unfolding emitting_of
-returns-in-Refused c row ml lives = simp (lives, sym c.taken-taken.ensures ∙ c.in-Refused.is)
+returns-in_err-e c row ml lives = let p = err_from_is_err_and c.from_residual.result c.from_residual.ensures.1 in rw (p.1, p.2) (simp (lives, sym c.taken.ensures ∙ c.in_err-e.was))
 
-pub returns-in-Depth : goal.returns-in-Depth
-returns-in-Depth c row ml lives = c.decide_spot.ensures row ml lives (sym c.taken-taken.ensures ∙ c.in-Depth.is)
+pub returns : goal.returns
+returns c row ml lives = c.decide_spot.ensures row ml lives (sym c.taken.ensures ∙ c.in_ok-e.was)

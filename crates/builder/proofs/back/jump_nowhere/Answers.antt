@@ -1,51 +1,48 @@
 -- `builder::back::jump_nowhere` meets its contract: how it begins is the line's, and no mark is read.
 -- Assumes nothing.
+use Rattle.std.proofs.lemmas.Result.{err_from_is_err_and}
+use Rattle.std.specs.Prelude.{Ok, Err, Some, None}
 use Rattle.builder.proofs.JumpPlans.{jumped_to}
 use Rattle.builder.proofs.Plans.{enters_as, line_enters}
 use Rattle.builder.specs.declared.JumpTarget.TheVariants as T
 use Rattle.builder.specs.declared.marks.Mark.TheVariants.{Absent}
-use Rattle.builder.specs.declared.plan.Entered.TheVariants as E
-use Rattle.builder.specs.declared.plan.Plan.TheVariants.{Idle, Refuse}
 use Rattle.op.specs.declared.Refusal.TheVariants.{DeadTarget}
-use mathlib.Core.Path.{◌∙◌, refl, sym}
+use mathlib.Core.Path.{◌∙◌, refl, sym, ap}
 use Rattle.builder.specs.Back.{to_asked, to_plan_of}
 use Rattle.builder.proofs.back.jump_nowhere.Goals as goal
 
-pub returns-in-Dead : goal.returns-in-Dead
+pub returns-in_err-entered : goal.returns-in_err-entered
 unfolding to_plan_of
-returns-in-Dead c =
+returns-in_err-entered c =
     let a = c.args in
-    jumped_to a.core a.location a.opcode T.Dead a.code.now a.locations.now a.marks.now Idle
-    (line_enters (to_asked a.core a.location a.opcode T.Dead Absent _ _ _) E.Dead
-    (enters_as _ _ _ c.enter-entered.ensures c.sound_with_marks-sound.ensures
-    c.in-Dead.is))
+    let p = err_from_is_err_and c.from_residual.result c.from_residual.ensures.1 in rw (p.1, p.2)
+    (jumped_to a.core a.location a.opcode T.Dead a.code.now a.locations.now a.marks.now (Err _)
+    (line_enters (to_asked a.core a.location a.opcode T.Dead Absent _ _ _) (Err _)
+    (enters_as _ _ _ c.enter.ensures c.sound_with_marks-sound.ensures c.in_err-entered.was)))
 
-pub returns-in-Refused : goal.returns-in-Refused
+pub returns-in_default : goal.returns-in_default
 unfolding to_plan_of
-returns-in-Refused c =
+returns-in_default c =
     let a = c.args in
-    jumped_to a.core a.location a.opcode T.Dead a.code.now a.locations.now a.marks.now (Refuse _)
-    (line_enters (to_asked a.core a.location a.opcode T.Dead Absent _ _ _) (E.Refused _)
-    (enters_as _ _ _ c.enter-entered.ensures c.sound_with_marks-sound.ensures
-    c.in-Refused.is))
+    jumped_to a.core a.location a.opcode T.Dead a.code.now a.locations.now a.marks.now (Ok None)
+    (line_enters (to_asked a.core a.location a.opcode T.Dead Absent _ _ _) (Ok None)
+    (enters_as _ _ _ c.enter.ensures c.sound_with_marks-sound.ensures (c.in_ok-entered.was ∙ ap Ok c.in_default.is)))
 
-pub returns-in-Refused-taken : goal.returns-in-Refused-taken
+pub returns-in_err-taken : goal.returns-in_err-taken
 unfolding to_plan_of
-returns-in-Refused-taken c =
+returns-in_err-taken c =
     let a = c.args in
-    jumped_to a.core a.location a.opcode T.Dead a.code.now a.locations.now a.marks.now (Refuse _)
-    (line_enters (to_asked a.core a.location a.opcode T.Dead Absent _ _ _) (E.Live _)
-    (enters_as _ _ _ c.enter-entered.ensures c.sound_with_marks-sound.ensures
-    c.in-Live.is)
-    ∙ rw (sym c.taken-taken.ensures ∙ c.in-Refused-taken.is) refl)
+    let p = err_from_is_err_and c.from_residual-in_err-taken.result c.from_residual-in_err-taken.ensures.1 in rw (p.1, p.2)
+    (jumped_to a.core a.location a.opcode T.Dead a.code.now a.locations.now a.marks.now (Err _)
+    (line_enters (to_asked a.core a.location a.opcode T.Dead Absent _ _ _) (Ok (Some _))
+    (enters_as _ _ _ c.enter.ensures c.sound_with_marks-sound.ensures (c.in_ok-entered.was ∙ ap Ok c.in-Some.is))
+    ∙ rw (sym c.taken.ensures ∙ c.in_err-taken.was) refl))
 
-pub returns-in-Depth : goal.returns-in-Depth
+pub returns : goal.returns
 unfolding to_plan_of
-returns-in-Depth c =
+returns c =
     let a = c.args in
-    jumped_to a.core a.location a.opcode T.Dead a.code.now a.locations.now a.marks.now
-    (Refuse DeadTarget)
-    (line_enters (to_asked a.core a.location a.opcode T.Dead Absent _ _ _) (E.Live _)
-    (enters_as _ _ _ c.enter-entered.ensures c.sound_with_marks-sound.ensures
-    c.in-Live.is)
-    ∙ rw (sym c.taken-taken.ensures ∙ c.in-Depth.is) refl)
+    jumped_to a.core a.location a.opcode T.Dead a.code.now a.locations.now a.marks.now (Err DeadTarget)
+    (line_enters (to_asked a.core a.location a.opcode T.Dead Absent _ _ _) (Ok (Some _))
+    (enters_as _ _ _ c.enter.ensures c.sound_with_marks-sound.ensures (c.in_ok-entered.was ∙ ap Ok c.in-Some.is))
+    ∙ rw (sym c.taken.ensures ∙ c.in_ok-taken.was) refl)

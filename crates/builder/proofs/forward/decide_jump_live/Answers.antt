@@ -1,8 +1,9 @@
 -- `builder::forward::decide_jump_live` meets its contract: the taken depth is op's, the rest as any emission.
 -- Assumes nothing.
+use Rattle.std.proofs.lemmas.Result.{err_from_is_err_and}
+use Rattle.builder.specs.Plan.{Decision}
 use Rattle.builder.proofs.JumpPlans.{ahead_live}
 use Rattle.builder.proofs.Plans.{lives_sound}
-use Rattle.builder.specs.declared.plan.Plan.{Plan}
 use Rattle.op.specs.declared.Table.TheVariants.{Locations, Marks}
 use Rattle.code.specs.Tables.{mark_cells, room}
 use Rattle.builder.specs.Locations.{row_fits}
@@ -18,17 +19,17 @@ decide_bytes-bytes-requires c =
     let s = lives_sound (jump_asked a.core a.location a.opcode a.cl a.ll a.ml) c.requires in
     (s.code, s.limit)
 
-pub returns-in-Refused : goal.returns-in-Refused
+pub returns-in_err-t : goal.returns-in_err-t
 unfolding jump_plan_of emitting_of
-returns-in-Refused c = simp (c.requires, sym c.taken-taken.ensures ∙ c.in-Refused.is)
+returns-in_err-t c = let p = err_from_is_err_and c.from_residual.result c.from_residual.ensures.1 in rw (p.1, p.2) (simp (c.requires, sym c.taken.ensures ∙ c.in_err-t.was))
 
-pub returns-in-Depth : goal.returns-in-Depth
-returns-in-Depth c =
+pub returns : goal.returns
+returns c =
     let a = c.args in
     c.also_row.ensures
-    ∙ ap (λ (p : Plan). also_row p (room mark_cells a.core.marks a.ml) Marks)
-    (c.also_location-plan.ensures
-    ∙ ap (λ (p : Plan). also_row p (row_fits a.location a.core.locations a.ll) Locations)
+    ∙ ap (λ (p : Decision). also_row p (room mark_cells a.core.marks a.ml) Marks)
+    (c.also_location-located.ensures
+    ∙ ap (λ (p : Decision). also_row p (row_fits a.location a.core.locations a.ll) Locations)
     c.decide_bytes-bytes.ensures)
     ∙ sym (ahead_live a.core a.location a.opcode a.cl a.ll a.ml a.d _ c.requires
-    (sym c.taken-taken.ensures ∙ c.in-Depth.is))
+    (sym c.taken.ensures ∙ c.in_ok-t.was))

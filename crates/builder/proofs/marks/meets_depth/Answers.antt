@@ -3,5 +3,5 @@
 use mathlib.Core.Path.{refl}
 use Rattle.builder.proofs.marks.meets_depth.Goals as goal
 
-pub returns-in-Live : goal.returns-in-Live
-returns-in-Live c = rw c.in-Live.is refl
+pub returns-in-Some : goal.returns-in-Some
+returns-in-Some c = rw c.in-Some.is refl

@@ -1,12 +1,12 @@
 -- `builder::numbered::of_call` meets its contract: at each call's number the definition is the arm's instruction.
 -- Assumes nothing.
+use Rattle.std.specs.Prelude.{Some}
 use mathlib.Core.Path.{◌∙◌, ap}
 use Prim.Native.Nat.{ℕ}
 use native.Mathlib.Omega.{arith}
 use Rattle.op.specs.declared.Operand.TheVariants.{U16, U16U16, U16U16U8}
 use Rattle.base.proofs.Keys.{at, past}
 use Rattle.builder.specs.Numbered.{instruction_of}
-use Rattle.builder.specs.declared.numbered.Instruction.TheVariants.{Is}
 use Rattle.builder.proofs.ByNumber.{no_call}
 use Rattle.builder.proofs.numbered.of_call.Goals as goal
 
@@ -96,21 +96,21 @@ pub returns-in-12 : goal.returns-in-12
 unfolding instruction_of
 returns-in-12 c =
     let a = c.args in
-    ap (λ (w : ℕ). Is _ a.b (U16 w)) c.name_word.ensures
+    ap (λ (w : ℕ). Some (record { opcode = _; name = a.b; operand = (U16 w) })) c.name_word.ensures
     ∙ at (λ (s : ℕ). instruction_of s a.opcode a.a a.b a.c a.names) c.in-12.is
 
 pub returns-in-13 : goal.returns-in-13
 unfolding instruction_of
 returns-in-13 c =
     let a = c.args in
-    ap (λ (w : ℕ). Is _ a.b (U16U16 a.a w)) c.name_word-in-13.ensures
+    ap (λ (w : ℕ). Some (record { opcode = _; name = a.b; operand = (U16U16 a.a w) })) c.name_word-in-13.ensures
     ∙ at (λ (s : ℕ). instruction_of s a.opcode a.a a.b a.c a.names) c.in-13.is
 
 pub returns-in-14 : goal.returns-in-14
 unfolding instruction_of
 returns-in-14 c =
     let a = c.args in
-    ap (λ (w : ℕ). Is a.opcode a.b (U16U16U8 a.a w a.c)) c.name_word-in-14.ensures
+    ap (λ (w : ℕ). Some (record { opcode = a.opcode; name = a.b; operand = (U16U16U8 a.a w a.c) })) c.name_word-in-14.ensures
     ∙ at (λ (s : ℕ). instruction_of s a.opcode a.a a.b a.c a.names) c.in-14.is
 
 pub returns-in-15 : goal.returns-in-15

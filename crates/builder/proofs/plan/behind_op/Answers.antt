@@ -8,6 +8,6 @@ pub returns-then-is_dead_maker : goal.returns-then-is_dead_maker
 unfolding behind
 returns-then-is_dead_maker c = simp (sym c.is_dead_maker.ensures ∙ c.if-is_dead_maker.true)
 
-pub returns : goal.returns
+pub returns-else-is_dead_maker : goal.returns-else-is_dead_maker
 unfolding behind
-returns c = simp (sym c.is_dead_maker.ensures ∙ c.if-is_dead_maker.false)
+returns-else-is_dead_maker c = simp (sym c.is_dead_maker.ensures ∙ c.if-is_dead_maker.false)

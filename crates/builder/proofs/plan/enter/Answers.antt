@@ -22,22 +22,11 @@ returns-then-name-gt-WORD_MAX c =
       lt-leb _ _ c.if-name-gt-WORD_MAX.true,
     )
 
-pub returns-in-Dead : goal.returns-in-Dead
+pub returns : goal.returns
 unfolding enter_of known
-returns-in-Dead c =
+returns c =
     simp (
       c.if-not-sound.false,
       le-leb _ _ c.if-opcode-gt-LAST.false,
       le-leb _ _ c.if-name-gt-WORD_MAX.false,
-      c.in-Dead.is,
-    )
-
-pub returns-in-Live : goal.returns-in-Live
-unfolding enter_of known
-returns-in-Live c =
-    simp (
-      c.if-not-sound.false,
-      le-leb _ _ c.if-opcode-gt-LAST.false,
-      le-leb _ _ c.if-name-gt-WORD_MAX.false,
-      c.in-Live.is,
     )

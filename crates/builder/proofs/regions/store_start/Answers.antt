@@ -20,7 +20,6 @@ returns c =
     let h : a.b.starts * start_cells + 2 ≤ length a.starts.now = omega (arith, c.if-starts-row.false) in
     rw (
       lt-ltb _ _ c.if-starts-row.false,
-      c.open_at.ensures,
       c.row2.ensures,
       put_lent (a.b.starts * start_cells) (a.b.core.code ∷ a.d ∷ []) a.starts.now h,
     )
