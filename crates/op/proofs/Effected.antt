@@ -1,5 +1,6 @@
 -- Laws of `shape_of` and `effect_of`: what a known shape says of the effect; and of the effect without its operand.
 -- Assumes nothing.
+use lib.Dec.{eqb}
 use Rattle.op.specs.Effects.{by}
 use Rattle.op.specs.declared.Effect.{Effect}
 use Rattle.std.specs.Prelude.{Ok, Err, Some, None, Result, Option}
@@ -68,9 +69,15 @@ module _ (k n : ℕ) (is : n ≡ shape_no k) where
       go true q h = (refl, h)
       go false q h = absurd (d h)
 
-pub effect_unknown : (k : ℕ) (o : Operand) → known k ≡ false → Err UnknownOpcode ≡ effect_of k o
-unfolding effect_of
-effect_unknown k o e = simp e
+pub effect_refused : (k : ℕ) (o : Operand) (r : Refusal) → shape_of k ≡ Err r → Err r ≡ effect_of k o
+unfolding effect_of shape_of
+effect_refused k o r e = go (known k) e
+  where
+    go : (b : Bool) → cond b (Ok (shape_in (row_of k))) (Err UnknownOpcode) ≡ Err r
+        → Err r ≡ cond b (cond (eqb (shape_number (shape_in (row_of k))) (shape_number (operand_shape o)))
+        (Ok (effect_by (rule_in (row_of k)) (former_of o) (last_of o))) (Err WrongShape)) (Err UnknownOpcode)
+    go true h = clash cc
+    go false h = let same : UnknownOpcode ≡ r = cc in ap Err (sym same)
 
 module _ (k : ℕ) (o : Operand) (s : Shape) (is : shape_of k ≡ Ok s) where
   -- the operand has another shape
@@ -82,7 +89,7 @@ module _ (k : ℕ) (o : Operand) (s : Shape) (is : shape_of k ≡ Ok s) where
 
   -- the operand has the opcode's shape
   pub effect_fits : shape_number s ≡ shape_number (operand_shape o)
-      → effect_by (rule_in (row_of k)) (former_of o) (last_of o) ≡ effect_of k o
+      → Ok (effect_by (rule_in (row_of k)) (former_of o) (last_of o)) ≡ effect_of k o
   unfolding effect_of
   effect_fits e =
       let q = shape_is k s is in
@@ -167,7 +174,7 @@ module _ (k : ℕ) where
     unfolding fixed_of rule_no
     fixed_rest h = simp is (by_operand (rule_in (row_of k)) (omega (arith, p)))
 
-    pub from_rule : (m n : ℕ) → effect_by (rule_at e) m n ≡ effect_from k m n
+    pub from_rule : (m n : ℕ) → Ok (effect_by (rule_at e) m n) ≡ effect_from k m n
     unfolding effect_from rule_no
     from_rule m n = simp is (rw (p, rule_at_lem (rule_in (row_of k))))
 
@@ -177,7 +184,7 @@ Agrees (Ok (Some effect)) e = e ≡ Ok (by effect.up effect.down)
 Agrees (Ok None) e = Unit {0}
 Agrees (Err r) e = e ≡ Err r
 
-rule_agrees : (r : Rule) (m n : ℕ) → Agrees (fixed_by r) (effect_by r m n)
+rule_agrees : (r : Rule) (m n : ℕ) → Agrees (fixed_by r) (Ok (effect_by r m n))
 unfolding fixed_by effect_by
 rule_agrees minus3 m n = refl
 rule_agrees minus2 m n = refl
@@ -203,7 +210,7 @@ unfolding fixed_of effect_from
 agrees k m n = go (known k)
   where
     go : (b : Bool) → Agrees (cond b (fixed_by (rule_in (row_of k))) (Err UnknownOpcode))
-        (cond b (effect_by (rule_in (row_of k)) m n) (Err UnknownOpcode))
+        (cond b (Ok (effect_by (rule_in (row_of k)) m n)) (Err UnknownOpcode))
     go true = rule_agrees (rule_in (row_of k)) m n
     go false = refl
 

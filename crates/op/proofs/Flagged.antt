@@ -1,21 +1,15 @@
 -- Laws of the assert flags.
 -- Assumes nothing.
+use lib.ListN.{get_or-eq_default}
+use borrow.Author.Tests.{ne_eqb, le-leb, lt-leb}
+use native.Mathlib.Omega.{arith}
 use Rattle.op.specs.declared.CmpOperator.{CmpOperator}
 use Rattle.std.specs.Prelude.{Some, None, Option}
-use mathlib.Core.Path.{◌≡◌, refl}
-use mathlib.Core.Bool.{Bool, true, false}
-use lib.Dec.{T}
-use Rattle.op.specs.Flags.{decoded_flags, flags_of}
+use mathlib.Core.Path.{◌≡◌, refl, sym}
+use Prim.Native.Nat.{ℕ, ◌+◌, ◌-◌, ◌<◌}
+use Rattle.op.specs.Flags.{comparison_number, comparisons, decoded_flags, flags_of}
+use Rattle.op.specs.declared.CmpOperator.{CmpOperator}
 use Rattle.op.specs.declared.CmpOperator.TheVariants.{Eq, NotEq, Lt, LtE, Gt, GtE, Is, IsNot, In, NotIn}
-
--- whether a decoded byte is invalid
-abbrev pub is_invalid : Option (Option CmpOperator) → Bool
-is_invalid (Some compared) = false
-is_invalid None = true
-
-pub invalid : (f : Option (Option CmpOperator)) → T (is_invalid f) → None ≡ f
-invalid (Some compared) t = absurd t
-invalid None t = refl
 
 -- what is encoded is decoded again
 pub flags_back : (x : Option CmpOperator) → decoded_flags (flags_of x) ≡ Some x
@@ -31,3 +25,17 @@ flags_back (Some Is) = refl
 flags_back (Some IsNot) = refl
 flags_back (Some In) = refl
 flags_back (Some NotIn) = refl
+
+-- a byte whose lower half is a comparison's number is that comparison, and one whose lower half is none is invalid
+pub decoded_is : (b n : ℕ) (x : CmpOperator) → b ≡ 0x10 + n → comparison_number x ≡ n → Some (Some x) ≡ decoded_flags b
+decoded_is b n x e is = rw (e, ← is) (sym (flags_back (Some x)))
+
+pub decoded_not : (b n : ℕ) → b ≡ 0x10 + n → 9 < n → None ≡ decoded_flags b
+unfolding decoded_flags
+decoded_not b n e h =
+    simp (ne_eqb b 0 (λ z. omega (arith, z, e)), le-leb 0x10 b (omega (arith, e)))
+    (sym (get_or-eq_default comparisons None {n = b - 0x10} (omega (arith, e, h))))
+
+pub decoded_low : (b : ℕ) → b < 0x10 → (b ≡ 0 → ⊥) → None ≡ decoded_flags b
+unfolding decoded_flags
+decoded_low b h n = simp (ne_eqb b 0 n, lt-leb 0x10 b h)

@@ -1,5 +1,6 @@
 -- Laws of the rules of effects.
 -- Assumes nothing.
+use Rattle.op.specs.declared.Effect.{Effect}
 use Rattle.op.specs.Effects.{by}
 use Rattle.std.specs.Prelude.{Ok, Err}
 use mathlib.Core.Path.{◌≡◌, refl}
@@ -46,7 +47,7 @@ rule_at_lem match_keys = refl
 
 -- a choice of two small effects is small
 -- every rule's effect is small over an operand's numbers
-pub rule_small : (r : Rule) (m n : ℕ) → m < 256 → n < 65536 → Small (effect_by r m n)
+pub rule_small : (r : Rule) (m n : ℕ) → m < 256 → n < 65536 → Small (Ok (effect_by r m n))
 unfolding effect_by
 rule_small minus3 m n h l = (omega arith, omega arith)
 rule_small minus2 m n h l = (omega arith, omega arith)
@@ -65,7 +66,8 @@ rule_small extended m n h l = (omega arith, omega arith)
 rule_small format m n h l = (omega arith, omega arith)
 rule_small assert m n h l = (omega arith, omega arith)
 rule_small assert_failed m n h l = (omega arith, omega arith)
-rule_small match_keys m n h l = either Small (eqb n 1) (Ok (by 0 1)) (Ok (by 2 0)) (omega arith, omega arith) (omega arith, omega arith)
+rule_small match_keys m n h l =
+    either (λ (e : Effect). Small (Ok e)) (eqb n 1) (by 0 1) (by 2 0) (omega arith, omega arith) (omega arith, omega arith)
 
 -- and so is a taken jump's
 pub taken_small : (k : ℕ) → Small (taken_of k)

@@ -3,7 +3,7 @@
 -- Assumes nothing.
 use Rattle.op.specs.declared.Effect.{Effect}
 use Rattle.op.specs.declared.Refusal.{Refusal}
-use Rattle.std.specs.Prelude.{Bool, cond, [], ◌∷◌, ℕ, ◌+◌, ◌*◌, ◌/◌, ◌%◌, ◌<◌, eqb, Ok, Err, Some, None, Result, Option, true, false, ℤ}
+use Rattle.std.specs.Prelude.{Bool, cond, [], ◌∷◌, ℕ, ◌+◌, ◌*◌, ◌/◌, ◌%◌, ◌<◌, eqb, Ok, Err, Some, None, Result, Option, ℤ}
 use Rattle.std.proofs.Math.IntN.{sub_ℕ}
 use Rattle.base.specs.Tests.{is_in}
 use Rattle.op.specs.Opcodes.{Rule, minus3, minus2, minus1, same, plus1, plus2, minus_n, one_minus_n, one_minus_2n, n_minus_one, both, minus_both, one_minus_both, extended, format, assert, assert_failed, match_keys}
@@ -54,38 +54,38 @@ former_of (O.CallAttrKw attribute positional names) = positional
 former_of (O.U16U16U8 a b c) = 0
 
 -- R8, "The others go by their operand": a rule over an operand's former and last number
-unfoldable pub effect_by : Rule → ℕ → ℕ → Result Effect Refusal
-effect_by minus3 m n = Ok (by 0 3)
-effect_by minus2 m n = Ok (by 0 2)
-effect_by minus1 m n = Ok (by 0 1)
-effect_by same m n = Ok (by 0 0)
-effect_by plus1 m n = Ok (by 1 0)
-effect_by plus2 m n = Ok (by 2 0)
-effect_by minus_n m n = Ok (by 0 n)
-effect_by one_minus_n m n = Ok (by 1 n)
-effect_by one_minus_2n m n = Ok (by 1 (2 * n))
-effect_by n_minus_one m n = Ok (by n 1)
-effect_by both m n = Ok (by (m + n) 0)
-effect_by minus_both m n = Ok (by 0 (m + n))
-effect_by one_minus_both m n = Ok (by 1 (m + n))
-effect_by extended m n = Ok (by 0 (1 + n % 2))
-effect_by format m n = Ok (by 0 (n / 4 % 2))
-effect_by assert m n = Ok (by 0 (1 + n / 16 % 2))
-effect_by assert_failed m n = Ok (by 0 (2 + n / 16 % 2))
-effect_by match_keys m n = cond (eqb n 1) (Ok (by 0 1)) (Ok (by 2 0))
+unfoldable pub effect_by : Rule → ℕ → ℕ → Effect
+effect_by minus3 m n = by 0 3
+effect_by minus2 m n = by 0 2
+effect_by minus1 m n = by 0 1
+effect_by same m n = by 0 0
+effect_by plus1 m n = by 1 0
+effect_by plus2 m n = by 2 0
+effect_by minus_n m n = by 0 n
+effect_by one_minus_n m n = by 1 n
+effect_by one_minus_2n m n = by 1 (2 * n)
+effect_by n_minus_one m n = by n 1
+effect_by both m n = by (m + n) 0
+effect_by minus_both m n = by 0 (m + n)
+effect_by one_minus_both m n = by 1 (m + n)
+effect_by extended m n = by 0 (1 + n % 2)
+effect_by format m n = by 0 (n / 4 % 2)
+effect_by assert m n = by 0 (1 + n / 16 % 2)
+effect_by assert_failed m n = by 0 (2 + n / 16 % 2)
+effect_by match_keys m n = cond (eqb n 1) (by 0 1) (by 2 0)
 
 -- 1, then 2: the effect of an opcode with an operand (R7)
 unfoldable pub effect_of : ℕ → Operand → Result Effect Refusal
 effect_of k o =
     cond (known k)
     (cond (eqb (shape_number (shape_in (row_of k))) (shape_number (operand_shape o)))
-    (effect_by (rule_in (row_of k)) (former_of o) (last_of o))
+    (Ok (effect_by (rule_in (row_of k)) (former_of o) (last_of o)))
     (Err WrongShape))
     (Err UnknownOpcode)
 
 -- 1, or the effect of an opcode by an operand's former and last number (R8)
 unfoldable pub effect_from : (k m n : ℕ) → Result Effect Refusal
-effect_from k m n = cond (known k) (effect_by (rule_in (row_of k)) m n) (Err UnknownOpcode)
+effect_from k m n = cond (known k) (Ok (effect_by (rule_in (row_of k)) m n)) (Err UnknownOpcode)
 
 -- R8, "The others go by their operand": what a rule's effect is without one
 unfoldable pub fixed_by : Rule → Result (Option Effect) Refusal
@@ -137,4 +137,4 @@ dead_maker k = is_in k (ReturnValue ∷ Raise ∷ Reraise ∷ RaiseUnboundLocal 
 
 -- what is behind an opcode, or 1
 abbrev pub deadness_of : ℕ → Result Bool Refusal
-deadness_of k = cond (known k) (cond (dead_maker k) (Ok true) (Ok false)) (Err UnknownOpcode)
+deadness_of k = cond (known k) (Ok (dead_maker k)) (Err UnknownOpcode)

@@ -1,6 +1,7 @@
 -- The flags of Assert and AssertFailed: R6; op.rs, `assert_flags`, `decode_assert_flags`; CmpOperator.
 -- Assumes nothing.
-use Rattle.std.specs.Prelude.{cond, List, [], ◌∷◌, ℕ, ◌+◌, ◌-◌, eqb, leb, get_or, Some, None, Option}
+use Rattle.std.specs.Prelude.{cond, List, [], ◌∷◌, ℕ, ◌+◌, ◌-◌, eqb, leb, get_or, Some, None, Option, ◌≡◌, ◌<◌, Result, MatchResult}
+use Rattle.op.specs.declared.flags.NoComparison.{NoComparison}
 use Rattle.op.specs.declared.CmpOperator.{CmpOperator}
 use Rattle.op.specs.declared.CmpOperator.TheVariants.{Eq, NotEq, Lt, LtE, Gt, GtE, Is, IsNot, In, NotIn}
 
@@ -16,6 +17,10 @@ comparison_number Is = 6
 comparison_number IsNot = 7
 comparison_number In = 8
 comparison_number NotIn = 9
+
+-- a number and the comparison whose number it is, or an error with a number that no comparison has
+abbrev pub Compares : ℕ → Result CmpOperator NoComparison → Type 0
+Compares n r = MatchResult r (λ operator. comparison_number operator ≡ n) (λ e. (e.0 ≡ n) × (9 < n))
 
 -- the comparisons in the order of their numbers, and what each decodes to
 abbrev pub comparisons : List (Option (Option CmpOperator))

@@ -8,20 +8,15 @@ use crate::{Effect, Operand, Refusal, effects};
 fn land(low: Refusal, depth: u16, effect: Result<Effect, Refusal>) -> Result<u16, Refusal>
     ensures { result ≡ landing low depth effect }
 {
-    match effect {
-        Ok(Effect { up, down }) => {
-            let high = depth as u64 + up as u64;
-            let taken = down as u64;
-            if taken <= high {
-                if high - taken <= 65535 {
-                    return Ok((high - taken) as u16);
-                }
-                return Err(Refusal::DepthTooLarge);
-            }
-            Err(low)
-        }
-        Err(refusal) => Err(refusal),
-    }
+    let Effect { up, down } = effect?;
+    let high = u64::from(depth) + u64::from(up);
+    let Some(behind) = high.checked_sub(u64::from(down)) else {
+        return Err(low);
+    };
+    let Ok(next) = u16::try_from(behind) else {
+        return Err(Refusal::DepthTooLarge);
+    };
+    Ok(next)
 }
 
 // The depth after falling through: refuses 1, 2, then 4 or 5.

@@ -4,7 +4,7 @@ ghost use Rattle.op.specs.Effects.{effect_by, effect_of, taken_of, net_of, Small
 ghost use Rattle.op.specs.Effects.{former_of, fixed_of, effect_from};
 ghost use Rattle.op.specs.Inner.{rule_no, rule_at, rule_words, no_rules};
 
-use crate::{Effect, Operand, Refusal, opcodes, rows, shapes};
+use crate::{Effect, Operand, Refusal, Shape, opcodes, rows, shapes};
 
 // The rules of effects, by numbers of our own.
 const MINUS_3: u8 = 0;
@@ -77,45 +77,45 @@ fn rule_number(opcode: u8) -> u8
 }
 
 // A rule's effect, by the operand's former and last number.
-fn rule_effect(rule: u8, m: u32, n: u32) -> Result<Effect, Refusal>
+fn rule_effect(rule: u8, m: u32, n: u32) -> Effect
     requires { (m < 256) × (n < 65536) }
     ensures { result ≡ effect_by (rule_at rule) m n }
 {
     match rule {
-        MINUS_3 => Ok(Effect { up: 0, down: 3 }),
-        MINUS_2 => Ok(Effect { up: 0, down: 2 }),
-        MINUS_1 => Ok(Effect { up: 0, down: 1 }),
-        SAME => Ok(Effect { up: 0, down: 0 }),
-        PLUS_1 => Ok(Effect { up: 1, down: 0 }),
-        PLUS_2 => Ok(Effect { up: 2, down: 0 }),
-        MINUS_N => Ok(Effect { up: 0, down: n }),
-        ONE_MINUS_N => Ok(Effect { up: 1, down: n }),
-        ONE_MINUS_2N => Ok(Effect { up: 1, down: 2 * n }),
-        N_MINUS_ONE => Ok(Effect { up: n, down: 1 }),
-        BOTH => Ok(Effect { up: m + n, down: 0 }),
-        MINUS_BOTH => Ok(Effect { up: 0, down: m + n }),
-        ONE_MINUS_BOTH => Ok(Effect { up: 1, down: m + n }),
-        EXTENDED => Ok(Effect {
+        MINUS_3 => Effect { up: 0, down: 3 },
+        MINUS_2 => Effect { up: 0, down: 2 },
+        MINUS_1 => Effect { up: 0, down: 1 },
+        SAME => Effect { up: 0, down: 0 },
+        PLUS_1 => Effect { up: 1, down: 0 },
+        PLUS_2 => Effect { up: 2, down: 0 },
+        MINUS_N => Effect { up: 0, down: n },
+        ONE_MINUS_N => Effect { up: 1, down: n },
+        ONE_MINUS_2N => Effect { up: 1, down: 2 * n },
+        N_MINUS_ONE => Effect { up: n, down: 1 },
+        BOTH => Effect { up: m + n, down: 0 },
+        MINUS_BOTH => Effect { up: 0, down: m + n },
+        ONE_MINUS_BOTH => Effect { up: 1, down: m + n },
+        EXTENDED => Effect {
             up: 0,
             down: 1 + n % 2,
-        }),
-        FORMAT => Ok(Effect {
+        },
+        FORMAT => Effect {
             up: 0,
             down: n / 4 % 2,
-        }),
-        ASSERT => Ok(Effect {
+        },
+        ASSERT => Effect {
             up: 0,
             down: 1 + n / 16 % 2,
-        }),
-        ASSERT_FAILED => Ok(Effect {
+        },
+        ASSERT_FAILED => Effect {
             up: 0,
             down: 2 + n / 16 % 2,
-        }),
+        },
         _ => {
             if n == 1 {
-                Ok(Effect { up: 0, down: 1 })
+                Effect { up: 0, down: 1 }
             } else {
-                Ok(Effect { up: 2, down: 0 })
+                Effect { up: 2, down: 0 }
             }
         }
     }
@@ -179,14 +179,11 @@ fn former(operand: Operand) -> u32
 pub fn effect(opcode: u8, operand: Operand) -> Result<Effect, Refusal>
     ensures { (result ≡ effect_of opcode operand) × Small result }
 {
-    let shape = shapes::shape_number(opcode);
-    if shape == shapes::NO_SHAPE {
-        return Err(Refusal::UnknownOpcode);
-    }
-    if shape != shapes::number(shapes::of_operand(operand)) {
+    let shape = shapes::operand_shape(opcode)?;
+    if shape != Shape::from(operand) {
         return Err(Refusal::WrongShape);
     }
-    rule_effect(rule_number(opcode), former(operand), last(operand))
+    Ok(rule_effect(rule_number(opcode), former(operand), last(operand)))
 }
 
 // How far `a` is over `b`.
@@ -224,7 +221,7 @@ pub fn by_numbers(opcode: u8, former: u8, last: u16) -> Result<Effect, Refusal>
     if opcodes::LAST < opcode {
         return Err(Refusal::UnknownOpcode);
     }
-    rule_effect(rule_number(opcode), former as u32, last as u32)
+    Ok(rule_effect(rule_number(opcode), former as u32, last as u32))
 }
 
 // The effect of a taken jump: refuses 1, then 3.
@@ -292,8 +289,5 @@ pub fn makes_dead(opcode: u8) -> Result<bool, Refusal>
     if opcodes::LAST < opcode {
         return Err(Refusal::UnknownOpcode);
     }
-    if is_dead_maker(opcode) {
-        return Ok(true);
-    }
-    Ok(false)
+    Ok(is_dead_maker(opcode))
 }

@@ -1,25 +1,40 @@
 // The flags of Assert and AssertFailed.
 ghost use Rattle.std.specs.Prelude.{◌≡◌, ◌<◌};
-ghost use Rattle.op.specs.Flags.{comparison_number, flags_of, decoded_flags};
+ghost use Rattle.op.specs.Flags.{Compares, comparison_number, flags_of, decoded_flags};
 
 use crate::CmpOperator;
+
+// A number that is no comparison's.
+#[derive(Clone, Copy, Debug, PartialEq, Eq)]
+pub struct NoComparison(pub u8);
+
+impl TryFrom<u8> for CmpOperator {
+    type Error = NoComparison;
+
+    ghost try_from_gives = { Compares };
+
+    fn try_from(number: u8) -> Result<Self, NoComparison> {
+        match number {
+            0 => Ok(CmpOperator::Eq),
+            1 => Ok(CmpOperator::NotEq),
+            2 => Ok(CmpOperator::Lt),
+            3 => Ok(CmpOperator::LtE),
+            4 => Ok(CmpOperator::Gt),
+            5 => Ok(CmpOperator::GtE),
+            6 => Ok(CmpOperator::Is),
+            7 => Ok(CmpOperator::IsNot),
+            8 => Ok(CmpOperator::In),
+            9 => Ok(CmpOperator::NotIn),
+            _ => Err(NoComparison(number)),
+        }
+    }
+}
 
 // The number of a comparison, 0 to 9.
 pub fn as_operand(operator: CmpOperator) -> u8
     ensures { (result ≡ comparison_number operator) × (result < 10) }
 {
-    match operator {
-        CmpOperator::Eq => 0,
-        CmpOperator::NotEq => 1,
-        CmpOperator::Lt => 2,
-        CmpOperator::LtE => 3,
-        CmpOperator::Gt => 4,
-        CmpOperator::GtE => 5,
-        CmpOperator::Is => 6,
-        CmpOperator::IsNot => 7,
-        CmpOperator::In => 8,
-        CmpOperator::NotIn => 9,
-    }
+    operator as u8
 }
 
 // The flags byte of an assert that compares so.
@@ -32,22 +47,16 @@ pub fn assert_flags(compared: Option<CmpOperator>) -> u8
     }
 }
 
-// What a flags byte means.
+// What a flags byte means: `Some(None)` is an assert that compares nothing.
 pub fn decode_assert_flags(flags: u8) -> Option<Option<CmpOperator>>
     ensures { result ≡ decoded_flags flags }
 {
-    match flags {
-        0 => Some(None),
-        0x10 => Some(Some(CmpOperator::Eq)),
-        0x11 => Some(Some(CmpOperator::NotEq)),
-        0x12 => Some(Some(CmpOperator::Lt)),
-        0x13 => Some(Some(CmpOperator::LtE)),
-        0x14 => Some(Some(CmpOperator::Gt)),
-        0x15 => Some(Some(CmpOperator::GtE)),
-        0x16 => Some(Some(CmpOperator::Is)),
-        0x17 => Some(Some(CmpOperator::IsNot)),
-        0x18 => Some(Some(CmpOperator::In)),
-        0x19 => Some(Some(CmpOperator::NotIn)),
-        _ => None,
+    if flags == 0 {
+        return Some(None);
     }
+    let number = flags.checked_sub(0x10)?;
+    let Ok(operator) = CmpOperator::try_from(number) else {
+        return None;
+    };
+    Some(Some(operator))
 }

@@ -15,7 +15,7 @@ mod rows;
 pub mod shapes;
 
 // A lent table, which refusal 18 names.
-#[derive(Clone, Copy)]
+#[derive(Clone, Copy, Debug, PartialEq, Eq)]
 pub enum Table {
     Code,
     Locations,
@@ -29,7 +29,7 @@ pub enum Table {
 }
 
 // A refusal: a case for each number of R27's table, in its order. `refusals::number` gives the number.
-#[derive(Clone, Copy)]
+#[derive(Clone, Copy, Debug, PartialEq, Eq)]
 pub enum Refusal {
     // 1: opcode above the last one, given
     UnknownOpcode,
@@ -88,7 +88,7 @@ pub enum Refusal {
 }
 
 // The layout of an opcode's operand bytes.
-#[derive(Clone, Copy)]
+#[derive(Clone, Copy, Debug, PartialEq, Eq)]
 pub enum Shape {
     None,
     U8,
@@ -105,7 +105,7 @@ pub enum Shape {
 }
 
 // An operand, by value. Keyword names travel beside it; here is their count.
-#[derive(Clone, Copy)]
+#[derive(Clone, Copy, Debug, PartialEq, Eq)]
 pub enum Operand {
     None,
     U8(u8),
@@ -130,14 +130,14 @@ pub enum Operand {
 }
 
 // What an instruction does to the depth: adds `up` and takes `down` away.
-#[derive(Clone, Copy)]
+#[derive(Clone, Copy, Debug, PartialEq, Eq)]
 pub struct Effect {
     pub up: u32,
     pub down: u32,
 }
 
 // The comparison operators of expressions.rs.
-#[derive(Clone, Copy)]
+#[derive(Clone, Copy, Debug, PartialEq, Eq)]
 pub enum CmpOperator {
     Eq,
     NotEq,

@@ -43,16 +43,7 @@ pub fn number(refusal: Refusal) -> u8
 fn table_number(table: Table) -> u32
     ensures { result ≡ table_number table }
 {
-    match table {
-        Table::Code => 1,
-        Table::Locations => 2,
-        Table::Exceptions => 3,
-        Table::Constants => 4,
-        Table::Names => 5,
-        Table::Marks => 6,
-        Table::Starts => 7,
-        Table::Text => 8,
-    }
+    table as u32 + 1
 }
 
 // An offset's lower half.

@@ -70,8 +70,7 @@ pub fn shape_number(opcode: u8) -> u8
 pub fn operand_shape(opcode: u8) -> Result<Shape, Refusal>
     ensures { result ≡ shape_of opcode }
 {
-    let n = shape_number(opcode);
-    match n {
+    match shape_number(opcode) {
         NONE => Ok(Shape::None),
         U8 => Ok(Shape::U8),
         I8 => Ok(Shape::I8),
@@ -92,46 +91,27 @@ pub fn operand_shape(opcode: u8) -> Result<Shape, Refusal>
 pub fn number(shape: Shape) -> u8
     ensures { result ≡ shape_number shape }
 {
-    match shape {
-        Shape::None => NONE,
-        Shape::U8 => U8,
-        Shape::I8 => I8,
-        Shape::U16 => U16,
-        Shape::Offset => OFFSET,
-        Shape::U8U8 => U8U8,
-        Shape::U16U8 => U16U8,
-        Shape::U16U16 => U16U16,
-        Shape::U16U8U8 => U16U8U8,
-        Shape::CallKw => CALL_KW,
-        Shape::CallAttrKw => CALL_ATTR_KW,
-        Shape::U16U16U8 => U16U16U8,
-    }
+    shape as u8
 }
 
-// An operand's shape.
-pub fn of_operand(operand: Operand) -> Shape
-    ensures { result ≡ operand_shape operand }
-{
-    match operand {
-        Operand::None => Shape::None,
-        Operand::U8(_) => Shape::U8,
-        Operand::I8(_) => Shape::I8,
-        Operand::U16(_) => Shape::U16,
-        Operand::Offset(_) => Shape::Offset,
-        Operand::U8U8(_, _) => Shape::U8U8,
-        Operand::U16U8(_, _) => Shape::U16U8,
-        Operand::U16U16(_, _) => Shape::U16U16,
-        Operand::U16U8U8(_, _, _) => Shape::U16U8U8,
-        Operand::CallKw {
-            positional: _,
-            names: _,
-        } => Shape::CallKw,
-        Operand::CallAttrKw {
-            attribute: _,
-            positional: _,
-            names: _,
-        } => Shape::CallAttrKw,
-        Operand::U16U16U8(_, _, _) => Shape::U16U16U8,
+impl From<Operand> for Shape {
+    ghost from_gives = { λ operand shape. shape ≡ operand_shape operand };
+
+    fn from(operand: Operand) -> Shape {
+        match operand {
+            Operand::None => Shape::None,
+            Operand::U8(_) => Shape::U8,
+            Operand::I8(_) => Shape::I8,
+            Operand::U16(_) => Shape::U16,
+            Operand::Offset(_) => Shape::Offset,
+            Operand::U8U8(_, _) => Shape::U8U8,
+            Operand::U16U8(_, _) => Shape::U16U8,
+            Operand::U16U16(_, _) => Shape::U16U16,
+            Operand::U16U8U8(_, _, _) => Shape::U16U8U8,
+            Operand::CallKw { .. } => Shape::CallKw,
+            Operand::CallAttrKw { .. } => Shape::CallAttrKw,
+            Operand::U16U16U8(_, _, _) => Shape::U16U16U8,
+        }
     }
 }
 

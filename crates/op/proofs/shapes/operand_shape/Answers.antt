@@ -7,65 +7,65 @@ use Rattle.op.proofs.shapes.operand_shape.Goals as goal
 
 pub returns-in-0 : goal.returns-in-0
 returns-in-0 c =
-    shape_arm c.args.opcode c.shape_number-n.result 0 c.shape_number-n.ensures
+    shape_arm c.args.opcode c.shape_number.result 0 c.shape_number.ensures
     c.in-0.is
 
 pub returns-in-1 : goal.returns-in-1
 returns-in-1 c =
-    shape_arm c.args.opcode c.shape_number-n.result 1 c.shape_number-n.ensures
+    shape_arm c.args.opcode c.shape_number.result 1 c.shape_number.ensures
     c.in-1.is
 
 pub returns-in-2 : goal.returns-in-2
 returns-in-2 c =
-    shape_arm c.args.opcode c.shape_number-n.result 2 c.shape_number-n.ensures
+    shape_arm c.args.opcode c.shape_number.result 2 c.shape_number.ensures
     c.in-2.is
 
 pub returns-in-3 : goal.returns-in-3
 returns-in-3 c =
-    shape_arm c.args.opcode c.shape_number-n.result 3 c.shape_number-n.ensures
+    shape_arm c.args.opcode c.shape_number.result 3 c.shape_number.ensures
     c.in-3.is
 
 pub returns-in-4 : goal.returns-in-4
 returns-in-4 c =
-    shape_arm c.args.opcode c.shape_number-n.result 4 c.shape_number-n.ensures
+    shape_arm c.args.opcode c.shape_number.result 4 c.shape_number.ensures
     c.in-4.is
 
 pub returns-in-5 : goal.returns-in-5
 returns-in-5 c =
-    shape_arm c.args.opcode c.shape_number-n.result 5 c.shape_number-n.ensures
+    shape_arm c.args.opcode c.shape_number.result 5 c.shape_number.ensures
     c.in-5.is
 
 pub returns-in-6 : goal.returns-in-6
 returns-in-6 c =
-    shape_arm c.args.opcode c.shape_number-n.result 6 c.shape_number-n.ensures
+    shape_arm c.args.opcode c.shape_number.result 6 c.shape_number.ensures
     c.in-6.is
 
 pub returns-in-7 : goal.returns-in-7
 returns-in-7 c =
-    shape_arm c.args.opcode c.shape_number-n.result 7 c.shape_number-n.ensures
+    shape_arm c.args.opcode c.shape_number.result 7 c.shape_number.ensures
     c.in-7.is
 
 pub returns-in-8 : goal.returns-in-8
 returns-in-8 c =
-    shape_arm c.args.opcode c.shape_number-n.result 8 c.shape_number-n.ensures
+    shape_arm c.args.opcode c.shape_number.result 8 c.shape_number.ensures
     c.in-8.is
 
 pub returns-in-9 : goal.returns-in-9
 returns-in-9 c =
-    shape_arm c.args.opcode c.shape_number-n.result 9 c.shape_number-n.ensures
+    shape_arm c.args.opcode c.shape_number.result 9 c.shape_number.ensures
     c.in-9.is
 
 pub returns-in-10 : goal.returns-in-10
 returns-in-10 c =
-    shape_arm c.args.opcode c.shape_number-n.result 10 c.shape_number-n.ensures
+    shape_arm c.args.opcode c.shape_number.result 10 c.shape_number.ensures
     c.in-10.is
 
 pub returns-in-11 : goal.returns-in-11
 returns-in-11 c =
-    shape_arm c.args.opcode c.shape_number-n.result 11 c.shape_number-n.ensures
+    shape_arm c.args.opcode c.shape_number.result 11 c.shape_number.ensures
     c.in-11.is
 
 pub returns-in_default : goal.returns-in_default
 returns-in_default c =
-    shape_none c.args.opcode c.shape_number-n.result c.shape_number-n.ensures
+    shape_none c.args.opcode c.shape_number.result c.shape_number.ensures
     (past 0 12 _ c.in_default.in_default-own.rest (omega arith))
