@@ -208,37 +208,12 @@ pub change_is : (e : Result Effect Refusal) → is_by e ≡ true → of_change (
 change_is (Ok effect) h = refl
 change_is (Err r) h = cc
 
-by_mode : (b : Bool) → is_by (cond b (Ok (by 0 1)) (Ok (by 2 0))) ≡ true
-by_mode true = refl
-by_mode false = refl
-
-rule_is_by : (r : Rule) (m n : ℕ) → is_by (effect_by r m n) ≡ true
-unfolding effect_by
-rule_is_by minus3 m n = refl
-rule_is_by minus2 m n = refl
-rule_is_by minus1 m n = refl
-rule_is_by same m n = refl
-rule_is_by plus1 m n = refl
-rule_is_by plus2 m n = refl
-rule_is_by minus_n m n = refl
-rule_is_by one_minus_n m n = refl
-rule_is_by one_minus_2n m n = refl
-rule_is_by n_minus_one m n = refl
-rule_is_by both m n = refl
-rule_is_by minus_both m n = refl
-rule_is_by one_minus_both m n = refl
-rule_is_by extended m n = refl
-rule_is_by format m n = refl
-rule_is_by assert m n = refl
-rule_is_by assert_failed m n = refl
-rule_is_by match_keys m n = by_mode (eqb n 1)
-
 module _ (k : ℕ) (o : Operand) (e : shape_of k ≡ Ok (operand_shape o)) where
   -- what decodes or is written has an effect
   pub net_is : of_change (change_of (effect_of k o)) ≡ effect_of k o
   net_is =
       let f = effect_fits k o (operand_shape o) e refl in
-      change_is (effect_of k o) (ap is_by (sym f) ∙ rule_is_by (rule_in (row_of k)) (former_of o) (last_of o))
+      change_is (effect_of k o) (ap is_by (sym f))
 
 -- the opcodes of the shape Offset are those that jump
 agree : Bool → Bool → Bool

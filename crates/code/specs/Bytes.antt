@@ -32,5 +32,5 @@ unsigned m (pos n) = n
 unsigned m (negsuc n) = m - suc n
 
 -- a list with xs in the place of its first elements
-abbrev pub front : List ℕ → List ℕ → List ℕ
+abbrev pub front : {A : Type 0} → List A → List A → List A
 front xs l = xs ++ drop (length xs) l

@@ -11,9 +11,6 @@ ghost use Rattle.code.specs.Flow.{goal_by, goal_of, change_of, flow_by, flow_of}
 use crate::{Flow, Goal, numbers};
 use op::{Effect, Refusal, Shape, effects, shapes};
 
-// The number of the shape of jumps.
-const OFFSET: u8 = 4;
-
 // What an effect adds and takes away; nothing where it is refused.
 fn change_of(effect: Result<Effect, Refusal>) -> Effect
     ensures { result ≡ change_of effect }
@@ -65,10 +62,10 @@ fn goal_at(code: &[u8], at: usize, next: usize, shape: Shape) -> Goal
     requires { (at < length code.now) × (next ≤ length code.now) }
     ensures { result ≡ goal_of next (length code.now) (operand_in shape (drop at code.now)) }
 {
-    if shapes::number(shape) == OFFSET {
-        return goal_by(next, code.len(), numbers::word(code, at, 1) as usize);
+    match shape {
+        Shape::Offset => goal_by(next, code.len(), numbers::word(code, at, 1) as usize),
+        _ => Goal::Nowhere,
     }
-    Goal::Nowhere
 }
 
 // How the instruction of a shape and a size at an offset moves on.

@@ -40,7 +40,7 @@ pub const NO_DEPTH: u32 = 65536;
 pub const JUMP_SIZE: usize = 3;
 
 // An instruction that stands in the code, of `size` bytes, keyword names included.
-#[derive(Clone, Copy)]
+#[derive(Clone, Copy, Debug, PartialEq, Eq)]
 pub struct Instr {
     pub opcode: u8,
     pub operand: Operand,
@@ -51,7 +51,7 @@ pub struct Instr {
 pub type Step = Result<Option<Instr>, Refusal>;
 
 // Where a jump goes.
-#[derive(Clone, Copy)]
+#[derive(Clone, Copy, Debug, PartialEq, Eq)]
 pub enum Goal {
     // no jump
     Nowhere,
@@ -62,7 +62,7 @@ pub enum Goal {
 
 // How the instruction at an offset moves on. In this order each field begins a word of eight bytes, so that no copy of a
 // flow reads a word across two stores, for which a processor waits.
-#[derive(Clone, Copy)]
+#[derive(Clone, Copy, Debug, PartialEq, Eq)]
 pub struct Flow {
     pub size: usize,
     pub net: Effect,
@@ -74,14 +74,14 @@ pub struct Flow {
 }
 
 // A code that can't be read to its end: how many instructions stand before the fault, which is 1 or 22.
-#[derive(Clone, Copy)]
+#[derive(Clone, Copy, Debug, PartialEq, Eq)]
 pub struct Stopped {
     pub count: usize,
     pub refusal: Refusal,
 }
 
 // A row of the location table: its six numbers, unread.
-#[derive(Clone, Copy)]
+#[derive(Clone, Copy, Debug, PartialEq, Eq)]
 pub struct LocationRow {
     pub offset: u32,
     pub start: u32,
@@ -93,7 +93,7 @@ pub struct LocationRow {
 }
 
 // A row of the exception table: its six numbers, unread.
-#[derive(Clone, Copy)]
+#[derive(Clone, Copy, Debug, PartialEq, Eq)]
 pub struct HandlerRow {
     pub start: u32,
     pub end: u32,
@@ -105,14 +105,14 @@ pub struct HandlerRow {
 }
 
 // A source range, unread.
-#[derive(Clone, Copy)]
+#[derive(Clone, Copy, Debug, PartialEq, Eq)]
 pub struct CodeRange {
     pub start: u32,
     pub end: u32,
 }
 
 // The source location of the instructions from an offset on.
-#[derive(Clone, Copy)]
+#[derive(Clone, Copy, Debug, PartialEq, Eq)]
 pub struct LocationEntry {
     pub bytecode_offset: u32,
     pub range: CodeRange,
@@ -120,7 +120,7 @@ pub struct LocationEntry {
 }
 
 // Whether a handler reads the exception value from the operand stack.
-#[derive(Clone, Copy)]
+#[derive(Clone, Copy, Debug, PartialEq, Eq)]
 pub enum HandlerKind {
     // `except` dispatch and `with`, which read it
     Consuming,
@@ -129,7 +129,7 @@ pub enum HandlerKind {
 }
 
 // A protected range of the code, `start` inclusive, `end` exclusive, and its handler.
-#[derive(Clone, Copy)]
+#[derive(Clone, Copy, Debug, PartialEq, Eq)]
 pub struct ExceptionEntry {
     pub start: u32,
     pub end: u32,

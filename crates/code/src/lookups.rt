@@ -66,11 +66,8 @@ pub fn location_for_offset(rows: &[u32], offset: usize) -> Option<(usize, Locati
     if LARGEST_U32 < offset {
         return None;
     }
-    let after = first_greater(rows, offset);
-    if after == 0 {
-        return None;
-    }
-    Some((after - 1, location_row(rows, after - 1)))
+    let row = first_greater(rows, offset).checked_sub(1)?;
+    Some((row, location_row(rows, row)))
 }
 
 // A row of the exception table.
@@ -147,25 +144,14 @@ pub fn find_exception_handler(rows: &[u32], offset: u32) -> Option<(usize, Handl
 pub fn constant(constants: &[u64], index: usize) -> Option<u64>
     ensures { result ≡ constant_of constants.now index }
 {
-    if index < constants.len() {
-        return Some(constants[index]);
-    }
-    None
+    constants.get(index).copied()
 }
 
 // The name of a local slot; a name's cell holds its number and 1.
 pub fn local_name(names: &[u64], slot: usize) -> Option<u32>
     ensures { result ≡ local_name_of names.now slot }
 {
-    if slot < names.len() {
-        let held = names[slot];
-        if held == 0 {
-            return None;
-        }
-        if held <= 4294967296 {
-            return Some((held - 1) as u32);
-        }
-        return None;
-    }
-    None
+    let held = *names.get(slot)?;
+    let name = held.checked_sub(1)?;
+    u32::try_from(name).ok()
 }

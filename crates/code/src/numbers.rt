@@ -7,11 +7,6 @@ ghost use Rattle.code.specs.Decode.{operand_in, names_in, size_by_names};
 
 use op::{Shape, shapes};
 
-// The numbers of the two shapes that have keyword names.
-const CALL_KW: u8 = 9;
-
-const CALL_ATTR_KW: u8 = 10;
-
 // The byte `i` of the instruction.
 fn byte(code: &[u8], at: usize, i: usize) -> u8
     requires { at < length code.now }
@@ -28,9 +23,7 @@ pub fn word(code: &[u8], at: usize, i: usize) -> u16
     requires { (at < length code.now) × (i < 6) }
     ensures { result ≡ word_at (drop at code.now) i }
 {
-    let low = byte(code, at, i) as u16;
-    let high = byte(code, at, i + 1) as u16;
-    low + 256 * high
+    u16::from_le_bytes([byte(code, at, i), byte(code, at, i + 1)])
 }
 
 // How many keyword names it has.
@@ -38,14 +31,11 @@ fn names(code: &[u8], at: usize, shape: Shape) -> u8
     requires { at < length code.now }
     ensures { result ≡ names_in (operand_in shape (drop at code.now)) }
 {
-    let number = shapes::number(shape);
-    if number == CALL_KW {
-        return byte(code, at, 2);
+    match shape {
+        Shape::CallKw => byte(code, at, 2),
+        Shape::CallAttrKw => byte(code, at, 4),
+        _ => 0,
     }
-    if number == CALL_ATTR_KW {
-        return byte(code, at, 4);
-    }
-    0
 }
 
 // Its size, whether or not the code has as much.

@@ -6,28 +6,12 @@ ghost use Rattle.code.specs.Decode.{step_in};
 use crate::{Instr, Step, signs};
 use op::{Operand, Refusal, Shape};
 
-// A byte as a word.
-fn wide(b: u8) -> u16
-    ensures { (result ≡ b) × (result < 256) }
-{
-    b as u16
-}
-
-// A byte as a length.
-fn long(b: u8) -> usize
-    ensures { (result ≡ b) × (result < 256) }
-{
-    b as usize
-}
-
 // The little-endian word at `i`.
 fn word_at(bytes: &[u8], i: usize) -> u16
     requires { i + 1 < length bytes.now }
     ensures { result ≡ word_at bytes.now i }
 {
-    let low = wide(bytes[i]);
-    let high = wide(bytes[i + 1]);
-    low + 256 * high
+    u16::from_le_bytes([bytes[i], bytes[i + 1]])
 }
 
 // None: the opcode alone.
@@ -179,7 +163,7 @@ fn call_kw_step(bytes: &[u8], at: usize) -> Step
         return Err(Refusal::CutShort(at));
     }
     let n = bytes[2];
-    let size = 3 + 2 * long(n);
+    let size = 3 + 2 * usize::from(n);
     if bytes.len() < size {
         return Err(Refusal::CutShort(at));
     }
@@ -203,7 +187,7 @@ fn call_attr_kw_step(bytes: &[u8], at: usize) -> Step
         return Err(Refusal::CutShort(at));
     }
     let n = bytes[4];
-    let size = 5 + 2 * long(n);
+    let size = 5 + 2 * usize::from(n);
     if bytes.len() < size {
         return Err(Refusal::CutShort(at));
     }

@@ -5,28 +5,13 @@ ghost use Rattle.code.specs.Encode.{encode, written_of, Writes};
 ghost use Rattle.code.specs.Inner.{Writable};
 
 use crate::{decoder, signs, store};
-use op::{Operand, Refusal, Table, shapes};
+use op::{Operand, Refusal, Shape, Table, shapes};
 
-// A word's low byte.
-fn low(w: u16) -> u8
-    ensures { result ≡ w % 256 }
+// A word's two bytes, the low one first.
+fn halves(w: u16) -> [u8; 2]
+    ensures { result ≡ word_bytes w }
 {
-    (w % 256) as u8
-}
-
-// A word's high byte.
-fn high(w: u16) -> u8
-    ensures { result ≡ w / 256 }
-{
-    (w / 256) as u8
-}
-
-// An opcode and a word.
-fn write_word(out: &mut [u8], opcode: u8, w: u16)
-    requires { 3 ≤ length out.old }
-    ensures { out.new ≡ front (opcode ∷ word_bytes w) out.old }
-{
-    store::put3(out, opcode, low(w), high(w))
+    w.to_le_bytes()
 }
 
 // The names, two bytes each.
@@ -34,12 +19,10 @@ fn write_names(out: &mut [u8], names: &[u16])
     requires { 2 * length names.now ≤ length out.old }
     ensures { out.new ≡ front (names_bytes names.now) out.old }
 {
-    let mut i = 0;
-    while i < names.len() {
-        let w = names[i];
-        out[2 * i] = low(w);
-        out[2 * i + 1] = high(w);
-        i += 1;
+    for (i, w) in names.iter().enumerate() {
+        let [low, high] = halves(*w);
+        out[2 * i] = low;
+        out[2 * i + 1] = high;
     }
 }
 
@@ -49,7 +32,7 @@ fn write_call(out: &mut [u8], opcode: u8, positional: u8, n: u8, names: &[u16])
     ensures { out.new ≡ front (opcode ∷ positional ∷ n ∷ names_bytes names.now)
         out.old }
 {
-    store::put3(out, opcode, positional, n);
+    store::put(out, &[opcode, positional, n]);
     write_names(&mut out[3..], names);
 }
 
@@ -59,7 +42,8 @@ fn write_attr_call(out: &mut [u8], opcode: u8, attribute: u16, positional: u8, n
     ensures { out.new ≡ front
         (opcode ∷ word_bytes attribute ++ positional ∷ n ∷ names_bytes names.now) out.old }
 {
-    store::put5(out, opcode, low(attribute), high(attribute), positional, n);
+    let [low, high] = halves(attribute);
+    store::put(out, &[opcode, low, high, positional, n]);
     write_names(&mut out[5..], names);
 }
 
@@ -69,15 +53,31 @@ fn fill(out: &mut [u8], opcode: u8, operand: Operand, names: &[u16])
     ensures { out.new ≡ front (encode opcode operand names.now) out.old }
 {
     match operand {
-        Operand::None => store::put1(out, opcode),
-        Operand::U8(a) => store::put2(out, opcode, a),
-        Operand::I8(x) => store::put2(out, opcode, signs::byte_of(x)),
-        Operand::U16(w) => write_word(out, opcode, w),
-        Operand::Offset(x) => write_word(out, opcode, signs::word_of(x)),
-        Operand::U8U8(a, b) => store::put3(out, opcode, a, b),
-        Operand::U16U8(w, a) => store::put4(out, opcode, low(w), high(w), a),
-        Operand::U16U16(w, v) => store::put5(out, opcode, low(w), high(w), low(v), high(v)),
-        Operand::U16U8U8(w, a, b) => store::put5(out, opcode, low(w), high(w), a, b),
+        Operand::None => store::put(out, &[opcode]),
+        Operand::U8(a) => store::put(out, &[opcode, a]),
+        Operand::I8(x) => store::put(out, &[opcode, signs::byte_of(x)]),
+        Operand::U16(w) => {
+            let [low, high] = halves(w);
+            store::put(out, &[opcode, low, high]);
+        }
+        Operand::Offset(x) => {
+            let [low, high] = halves(signs::word_of(x));
+            store::put(out, &[opcode, low, high]);
+        }
+        Operand::U8U8(a, b) => store::put(out, &[opcode, a, b]),
+        Operand::U16U8(w, a) => {
+            let [low, high] = halves(w);
+            store::put(out, &[opcode, low, high, a]);
+        }
+        Operand::U16U16(w, v) => {
+            let [low, high] = halves(w);
+            let [low_2, high_2] = halves(v);
+            store::put(out, &[opcode, low, high, low_2, high_2]);
+        }
+        Operand::U16U8U8(w, a, b) => {
+            let [low, high] = halves(w);
+            store::put(out, &[opcode, low, high, a, b]);
+        }
         Operand::CallKw {
             positional,
             names: n,
@@ -87,7 +87,11 @@ fn fill(out: &mut [u8], opcode: u8, operand: Operand, names: &[u16])
             positional,
             names: n,
         } => write_attr_call(out, opcode, attribute, positional, n, names),
-        Operand::U16U16U8(w, v, a) => store::put6(out, opcode, low(w), high(w), low(v), high(v), a),
+        Operand::U16U16U8(w, v, a) => {
+            let [low, high] = halves(w);
+            let [low_2, high_2] = halves(v);
+            store::put(out, &[opcode, low, high, low_2, high_2, a]);
+        }
     }
 }
 
@@ -95,14 +99,11 @@ fn fill(out: &mut [u8], opcode: u8, operand: Operand, names: &[u16])
 fn decide(opcode: u8, operand: Operand, names: usize, room: usize) -> Result<usize, Refusal>
     ensures { result ≡ written_of opcode operand names room }
 {
-    let shaped = shapes::operand_shape(opcode);
-    let Ok(shape) = shaped else {
-        return Err(Refusal::UnknownOpcode);
-    };
+    let shape = shapes::operand_shape(opcode)?;
     if 255 < names {
         return Err(Refusal::TooManyKeywords);
     }
-    if shapes::number(shape) != shapes::number(shapes::of_operand(operand)) {
+    if shape != Shape::from(operand) {
         return Err(Refusal::WrongShape);
     }
     if decoder::names_of(operand) != names {
@@ -119,12 +120,7 @@ fn decide(opcode: u8, operand: Operand, names: usize, room: usize) -> Result<usi
 pub fn write(out: &mut [u8], opcode: u8, operand: Operand, names: &[u16]) -> Result<usize, Refusal>
     ensures { Writes opcode operand names.now out.old result out.new }
 {
-    let answer = decide(opcode, operand, names.len(), out.len());
-    match answer {
-        Ok(size) => {
-            fill(out, opcode, operand, names);
-            Ok(size)
-        }
-        Err(refusal) => Err(refusal),
-    }
+    let size = decide(opcode, operand, names.len(), out.len())?;
+    fill(out, opcode, operand, names);
+    Ok(size)
 }

@@ -69,15 +69,18 @@ module _ (k n : ℕ) (is : n ≡ shape_no k) where
       go true q h = (refl, h)
       go false q h = absurd (d h)
 
-pub effect_refused : (k : ℕ) (o : Operand) (r : Refusal) → shape_of k ≡ Err r → Err r ≡ effect_of k o
-unfolding effect_of shape_of
-effect_refused k o r e = go (known k) e
+-- what has no shape is no opcode
+pub shape_refused : (k : ℕ) (r : Refusal) → shape_of k ≡ Err r → (known k ≡ false) × (UnknownOpcode ≡ r)
+unfolding shape_of
+shape_refused k r e = go (known k) refl e
   where
-    go : (b : Bool) → cond b (Ok (shape_in (row_of k))) (Err UnknownOpcode) ≡ Err r
-        → Err r ≡ cond b (cond (eqb (shape_number (shape_in (row_of k))) (shape_number (operand_shape o)))
-        (Ok (effect_by (rule_in (row_of k)) (former_of o) (last_of o))) (Err WrongShape)) (Err UnknownOpcode)
-    go true h = clash cc
-    go false h = let same : UnknownOpcode ≡ r = cc in ap Err (sym same)
+    go : (b : Bool) → known k ≡ b → cond b (Ok (shape_in (row_of k))) (Err UnknownOpcode) ≡ Err r → (known k ≡ false) × (UnknownOpcode ≡ r)
+    go true q h = clash cc
+    go false q h = (q, cc)
+
+pub effect_refused : (k : ℕ) (o : Operand) (r : Refusal) → shape_of k ≡ Err r → Err r ≡ effect_of k o
+unfolding effect_of
+effect_refused k o r e = let h = shape_refused k r e in simp h.0 (ap Err (sym h.1))
 
 module _ (k : ℕ) (o : Operand) (s : Shape) (is : shape_of k ≡ Ok s) where
   -- the operand has another shape

@@ -30,9 +30,6 @@ const CALL_ATTR_KW: u8 = 10;
 
 const U16U16U8: u8 = 11;
 
-// Stands for a shape's number where there is no such opcode.
-pub const NO_SHAPE: u8 = 12;
-
 // The row of the shapes' numbers, eight opcodes a word.
 fn word(eight: u8) -> u64
     ensures { result ≡ get_or shape_words eight no_shapes }
@@ -59,7 +56,7 @@ fn word(eight: u8) -> u64
     }
 }
 
-// The number of an opcode's shape, or NO_SHAPE.
+// The number of an opcode's shape; 12 where there is no such opcode.
 pub fn shape_number(opcode: u8) -> u8
     ensures { result ≡ shape_no opcode }
 {

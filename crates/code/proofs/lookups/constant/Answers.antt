@@ -1,13 +1,9 @@
--- `code::lookups::constant` meets its contract: its test is that of the definition.
+-- `code::lookups::constant` meets its contract: what the library's lookup finds is what the definition has.
 -- Assumes nothing.
-use borrow.Author.Tests.{lt-ltb, le-ltb}
+use Rattle.std.proofs.Common.{rules}
 use Rattle.code.specs.Lookups.{constant_of}
 use Rattle.code.proofs.lookups.constant.Goals as goal
 
-pub returns-then-index-constants : goal.returns-then-index-constants
-unfolding constant_of
-returns-then-index-constants c = simp (lt-ltb _ _ c.if-index-constants.true)
-
 pub returns : goal.returns
 unfolding constant_of
-returns c = simp (le-ltb _ _ c.if-index-constants.false)
+returns c = search rules

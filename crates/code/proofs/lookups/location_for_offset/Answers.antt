@@ -24,21 +24,24 @@ pub returns-then-offset-gt-LARGEST_U32 : goal.returns-then-offset-gt-LARGEST_U32
 unfolding location_of
 returns-then-offset-gt-LARGEST_U32 c = simp (lt-ltb _ _ c.if-offset-gt-LARGEST_U32.true)
 
-pub returns-then-after-eq0 : goal.returns-then-after-eq0
+pub returns-in_err-row : goal.returns-in_err-row
 unfolding location_of
-returns-then-after-eq0 c = simp (← c.first_greater-after.ensures, le-ltb _ _ c.if-offset-gt-LARGEST_U32.false, c.if-after-eq0.true)
+returns-in_err-row c =
+    let none : c.first_greater.result ≡ 0 = omega (arith, c.in_err-row.ensures) in
+    rw c.from_residual.ensures (simp (← c.first_greater.ensures, le-ltb _ _ c.if-offset-gt-LARGEST_U32.false, none))
 
 pub location_row-requires : goal.location_row-requires
 location_row-requires c =
-    let a = c.args in
-    omega (arith, greater_inside a.rows.now a.offset)
+    omega (arith, greater_inside c.args.rows.now c.args.offset, c.first_greater.ensures, c.in_ok-row.ensures)
 
 pub returns : goal.returns
 unfolding location_of
 returns c =
+    let n = c.in_ok-row.ensures in
     simp (
-      ← c.first_greater-after.ensures,
+      ← c.first_greater.ensures,
       le-ltb _ _ c.if-offset-gt-LARGEST_U32.false,
-      before_is c.args.rows.now _ c.if-after-eq0.false,
+      before_is c.args.rows.now c.first_greater.result (λ z. omega (arith, n, z)),
       c.location_row.ensures,
+      n.1,
     )

@@ -1,18 +1,16 @@
--- `code::signs::to_i16` meets its contract: the number is what the bits are read as, and `!` twice over leaves them.
+-- `code::signs::to_i16` meets its contract: what the library reads is two's complement.
 -- Assumes nothing.
-use mathlib.Core.Path.{◌≡◌, refl, sym, ap, ◌∙◌}
-use Prim.Native.Nat.{◌-◌}
+use mathlib.Core.Path.{refl, sym, ap, ◌∙◌}
+use lib.IntN.{ℤ}
+use mir.Facts.{of_z-to_z}
 use native.Mathlib.Omega.{arith}
 use mir.Syntax.{w16}
-use mir.Val.{to_z}
+use mir.Val.{to_z, of_z}
 use Rattle.code.proofs.Twos.{signed_to_z}
 use Rattle.code.proofs.signs.to_i16.Goals as goal
 
-pub returns-then-w-lt32768 : goal.returns-then-w-lt32768
-returns-then-w-lt32768 c = sym (signed_to_z w16 65536 refl refl c.args.w (omega arith))
-
 pub returns : goal.returns
 returns c =
-    let b = c.args.w in
-    let e : 65535 - (65535 - b) ≡ b = omega arith in
-    ap (to_z w16) e ∙ sym (signed_to_z w16 65536 refl refl b (omega arith))
+    ap (λ (z : ℤ). to_z w16 (of_z w16 z)) c.cast_signed.ensures
+    ∙ ap (to_z w16) (of_z-to_z {w = w16} {n = c.args.w} (record { fits = omega arith }))
+    ∙ sym (signed_to_z w16 65536 refl refl c.args.w (omega arith))

@@ -19,10 +19,10 @@ pub returns-then-bytes-size : goal.returns-then-bytes-size
 unfolding size_of operand_in
 returns-then-bytes-size c =
     step_cut c.args.at _ c.args.bytes.now _
-    (ap (λ (x : ℕ). 3 + 2 * x) c.long.ensures.0) c.if-bytes-size.true
+    (ap (λ (x : ℕ). 3 + 2 * x) c.from.ensures) c.if-bytes-size.true
 
 pub returns : goal.returns
 unfolding size_of operand_in
 returns c =
     step_instr c.args.at _ c.args.bytes.now _
-    (ap (λ (x : ℕ). 3 + 2 * x) c.long.ensures.0) _ refl c.if-bytes-size.false
+    (ap (λ (x : ℕ). 3 + 2 * x) c.from.ensures) _ refl c.if-bytes-size.false

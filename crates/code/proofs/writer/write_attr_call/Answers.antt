@@ -13,12 +13,11 @@ pub returns : goal.returns
 returns c =
     let a = c.args in
     let b = names_bytes a.names.now in
-    let h : 5 + length b ≤ length c.put5.new.out = omega (arith, length_names a.names.now) in
+    let h : 5 + length b ≤ length c.put.new.out = omega (arith, length_names a.names.now) in
     rw (
       c.write_names.ensures,
-      lent 5 b c.put5.new.out h,
-      c.put5.ensures,
-      c.low.ensures,
-      c.high.ensures,
+      lent 5 b c.put.new.out h,
+      c.put.ensures,
+      c.halves.ensures,
     )
     (lent_behind (a.opcode ∷ (word_bytes a.attribute ++ a.positional ∷ a.n ∷ [])) b a.out.now)

@@ -13,6 +13,6 @@ pub returns : goal.returns
 returns c =
     let a = c.args in
     let b = names_bytes a.names.now in
-    let h : 3 + length b ≤ length c.put3.new.out = omega (arith, length_names a.names.now) in
-    rw (c.write_names.ensures, lent 3 b c.put3.new.out h, c.put3.ensures)
+    let h : 3 + length b ≤ length c.put.new.out = omega (arith, length_names a.names.now) in
+    rw (c.write_names.ensures, lent 3 b c.put.new.out h, c.put.ensures)
     (lent_behind (a.opcode ∷ a.positional ∷ a.n ∷ []) b a.out.now)
