@@ -1,5 +1,7 @@
 -- Each number of `emit_numbered` is the call that it stands for.
 -- Assumes nothing.
+use Rattle.base.proofs.Bools.{clash}
+use mathlib.Core.Bool.{Bool, true, false, cond}
 use Rattle.builder.specs.declared.numbered.Instruction.{Instruction}
 use Rattle.std.specs.Prelude.{Err, Some, None, Option}
 use mathlib.Core.Path.{◌≡◌, refl, sym}
@@ -63,3 +65,12 @@ numbers_are_calls g = record {
   emit_load_local = refl;
   emit_store_local = refl;
 }
+
+-- what is no byte gives no instruction, and what is one is the number
+pub no_byte : {A : Type 0} (t : Bool) (n : ℕ) (x : Option A) → None ≡ cond t (Some n) None → None ≡ cond t x None
+no_byte true n x e = clash cc
+no_byte false n x e = refl
+
+pub is_byte : (t : Bool) (m n : ℕ) → Some m ≡ cond t (Some n) None → (t ≡ true) × (m ≡ n)
+is_byte true m n e = (refl, cc)
+is_byte false m n e = (cc, cc)

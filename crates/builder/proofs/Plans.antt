@@ -74,7 +74,7 @@ unfolding effect_of shape_of
 after_shape d k o e h =
     let s = shape_in (row_of k) in
     let q = by_effect low_falling d e (known k) (eqb (shape_number s) (shape_number (operand_shape o)))
-    (effect_by (rule_in (row_of k)) (former_of o) (last_of o)) h in
+    (Ok (effect_by (rule_in (row_of k)) (former_of o) (last_of o))) h in
     rw q.0 (ap Ok (same_shape s (operand_shape o) (eqb-true _ _ q.1)))
 
 -- live code

@@ -22,10 +22,10 @@ ghost use Rattle.op.specs.Opcodes.{RaiseUnboundLocal};
 
 use crate::{
     Builder, Core, JumpLabel, JumpTarget, Location, back, emission, exceptions, forward, marks,
-    names, numbered, patch, regions, tables,
+    names, numbered, patch, regions,
 };
 use code::{
-    CODE_LIMIT, CodeRange, EXCEPTION_CELLS, HandlerKind, MARK_CELLS, START_CELLS, WORD_MAX,
+    CODE_LIMIT, CodeRange, EXCEPTION_CELLS, HandlerKind, MARK_CELLS, START_CELLS, WORD_MAX, store,
 };
 use op::{Operand, Refusal, Table, opcodes};
 
@@ -41,7 +41,7 @@ impl Builder {
         if starts.len() / START_CELLS <= 0 {
             return Err(Refusal::Full(Table::Starts));
         }
-        tables::row2(starts, 0, d as u32);
+        store::put(starts, &[0, d as u32]);
         Ok(regions::fresh_at(Some(d), 1))
     }
 
@@ -656,7 +656,7 @@ impl Builder {
         if constants.len() <= row {
             return Err(Refusal::Full(Table::Constants));
         }
-        tables::row1(&mut constants[row..], value);
+        store::put(&mut constants[row..], &[value]);
         Ok((
             Builder {
                 constants: row + 1,
@@ -697,14 +697,16 @@ impl Builder {
             return Err(Refusal::Full(Table::Exceptions));
         }
         let base = row * EXCEPTION_CELLS;
-        tables::row6(
+        store::put(
             &mut exceptions[base..],
-            start as u32,
-            end as u32,
-            handler as u32,
-            stack_depth as u32,
-            exception_stack_count as u32,
-            exceptions::kind_number(kind),
+            &[
+                start as u32,
+                end as u32,
+                handler as u32,
+                stack_depth as u32,
+                exception_stack_count as u32,
+                u32::from(kind),
+            ],
         );
         Ok(Builder {
             exceptions: row + 1,

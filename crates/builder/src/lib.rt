@@ -23,10 +23,9 @@ mod marks;
 mod names;
 mod numbered;
 mod regions;
-mod tables;
 
 // The source location of the instructions to come: the range, and the part of it that a traceback points at.
-#[derive(Clone, Copy)]
+#[derive(Clone, Copy, Debug, PartialEq, Eq)]
 pub struct Location {
     pub range: CodeRange,
     pub focus: Option<CodeRange>,
@@ -34,7 +33,7 @@ pub struct Location {
 
 // What emission reads and changes: the used rows of code, locations and marks, and the operand stack's depth before the
 // next instruction, none in dead code.
-#[derive(Clone, Copy)]
+#[derive(Clone, Copy, Debug, PartialEq, Eq)]
 pub struct Core {
     pub code: usize,
     pub locations: usize,
@@ -43,7 +42,7 @@ pub struct Core {
 }
 
 // The state: the used rows of every table, the depth and the location. Nothing of it is trusted.
-#[derive(Clone, Copy)]
+#[derive(Clone, Copy, Debug, PartialEq, Eq)]
 pub struct Builder {
     pub core: Core,
     pub location: Option<Location>,
@@ -55,14 +54,14 @@ pub struct Builder {
 
 // A forward jump that waits for `patch_jump`: a row of the marks. A label and a target are enums of their own and no
 // `Option<usize>`, so that neither can be passed for the other.
-#[derive(Clone, Copy)]
+#[derive(Clone, Copy, Debug, PartialEq, Eq)]
 pub enum JumpLabel {
     Dead,
     Row(usize),
 }
 
 // A place to jump back to: a row of the marks.
-#[derive(Clone, Copy)]
+#[derive(Clone, Copy, Debug, PartialEq, Eq)]
 pub enum JumpTarget {
     Dead,
     Row(usize),

@@ -4,12 +4,12 @@ ghost use Rattle.builder.specs.Marks.{target_outcome, target_at, any_open, mark_
 ghost use Rattle.builder.specs.Marks.{markable, near, bits, meets, revived};
 ghost use Rattle.code.specs.Tables.{code_limit, mark_cells, jump_size};
 
-use crate::{Builder, Core, JumpTarget, tables};
-use code::{CODE_LIMIT, JUMP_SIZE, MARK_CELLS, WORD_MAX};
+use crate::{Builder, Core, JumpTarget};
+use code::{CODE_LIMIT, JUMP_SIZE, MARK_CELLS, WORD_MAX, store};
 use op::{Refusal, Table};
 
 // A used mark with its offset and depth. Absent: the row is not used, or of no kind.
-#[derive(Clone, Copy)]
+#[derive(Clone, Copy, Debug, PartialEq, Eq)]
 pub enum Mark {
     Absent,
     Open(u32, u32),
@@ -131,12 +131,9 @@ pub fn any_open(rows: usize, marks: &[u32]) -> bool
     requires { rows ≤ length marks.now / mark_cells }
     ensures { result ≡ any_open rows marks.now }
 {
-    let mut i = 0;
     let mut found = false;
-    while i < rows {
-        let base = i * MARK_CELLS;
-        found = found | (marks[base] == OPEN);
-        i += 1;
+    for i in 0..rows {
+        found = found | (marks[i * MARK_CELLS] == OPEN);
     }
     found
 }
@@ -153,7 +150,7 @@ pub fn mark_target(b: Builder, d: u16, marks: &mut [u32]) -> Result<(Builder, Ju
     }
     let base = row * MARK_CELLS;
     let at = core.code;
-    tables::row4(&mut marks[base..], TARGET, at as u32, d as u32, 0);
+    store::put(&mut marks[base..], &[TARGET, at as u32, d as u32, 0]);
     let core = Core {
         marks: row + 1,
         ..core

@@ -33,10 +33,8 @@ pub fn fill_names(out: &mut [u64], names: &[u32])
     requires { length names.now ≤ length out.old }
     ensures { out.new ≡ front (map name_cell names.now) out.old }
 {
-    let mut i = 0;
-    while i < names.len() {
-        out[i] = name_cell(names[i]);
-        i += 1;
+    for (i, name) in names.iter().enumerate() {
+        out[i] = name_cell(*name);
     }
 }
 
@@ -55,11 +53,7 @@ pub fn extend(out: &mut [u64], absent: usize, name: u32)
     requires { absent < length out.old }
     ensures { out.new ≡ front (extension absent name) out.old }
 {
-    let mut i = 0;
-    while i < absent {
-        out[i] = 0;
-        i += 1;
-    }
+    out[..absent].fill(0);
     out[absent] = name_cell(name);
 }
 
@@ -67,10 +61,8 @@ pub fn extend(out: &mut [u64], absent: usize, name: u32)
 pub fn fill_absent(cells: &mut [u64], name: u32)
     ensures { cells.new ≡ map (λ (cell : ℕ). named cell name) cells.old }
 {
-    let mut i = 0;
-    while i < cells.len() {
-        cells[i] = named_cell(cells[i], name);
-        i += 1;
+    for cell in cells {
+        *cell = named_cell(*cell, name);
     }
 }
 

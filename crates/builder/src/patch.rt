@@ -6,12 +6,12 @@ ghost use Rattle.builder.specs.Patch.{mark_plan_of, open_plan};
 ghost use Rattle.builder.specs.Inner.{PatchCommitted};
 
 use crate::marks::Mark;
-use crate::{Core, marks, tables};
-use code::MARK_CELLS;
+use crate::{Core, marks};
+use code::{MARK_CELLS, store};
 use op::Refusal;
 
 // What a patch is to write: the depth then, the displacement, and the offset of the jump.
-#[derive(Clone, Copy)]
+#[derive(Clone, Copy, Debug, PartialEq, Eq)]
 pub struct PatchPlan {
     pub after: Option<u16>,
     pub word: u16,
@@ -80,7 +80,7 @@ pub fn commit_patch(
         marks.new }
 {
     let p = offset + 1;
-    tables::put2(&mut code[p..], (w % 256) as u8, (w / 256) as u8);
+    store::put(&mut code[p..], &store::halves(w));
     let base = i * MARK_CELLS;
     marks[base] = marks::PATCHED;
     Core {

@@ -7,11 +7,11 @@ ghost use Rattle.builder.specs.Inner.{also_row, bytes_of, room_of};
 
 use crate::{Core, Location, locations};
 use code::{CODE_LIMIT, LOCATION_CELLS, MARK_CELLS, WORD_MAX, decoder};
-use op::{Operand, Refusal, Table, depths, effects, opcodes, shapes};
+use op::{Operand, Refusal, Shape, Table, depths, effects, opcodes, shapes};
 
 // What an emitting call is to write: the depth then; a jump's taken depth or displacement, 0 elsewhere; and the size of
 // the instruction.
-#[derive(Clone, Copy)]
+#[derive(Clone, Copy, Debug, PartialEq, Eq)]
 pub struct Plan {
     pub after: Option<u16>,
     pub word: u16,
@@ -136,7 +136,7 @@ pub fn decide_bytes(
         return Err(Refusal::WrongShape);
     }
     let next = depths::after(d, opcode, operand)?;
-    let size = shapes::instruction_size(shapes::of_operand(operand), n as u8);
+    let size = shapes::instruction_size(Shape::from(operand), n as u8);
     room(core, size, behind_op(opcode, next), word, cl)
 }
 

@@ -1,7 +1,8 @@
 -- The records of the tables, and the handler lookup over a list of them: code.rs, `ExceptionEntry`,
 -- `find_exception_handler`; "and over a lent slice of records" (R45).
 -- Assumes nothing.
-use Rattle.std.specs.Prelude.{ℕ, ◌+◌, Bool, true, false, cond, List, [], ◌∷◌, ◌++◌, Some, None, Option}
+use Rattle.std.specs.Prelude.{ℕ, ◌+◌, Bool, true, false, cond, List, [], ◌∷◌, ◌++◌, Some, None, Option, ◌≡◌, ◌<◌, Result, MatchResult}
+use Rattle.code.specs.declared.entries.NoKind.{NoKind}
 use Rattle.code.specs.Lookups.{covers_of, handler_cells}
 use Rattle.code.specs.declared.ExceptionEntry.{ExceptionEntry}
 use Rattle.code.specs.declared.HandlerKind.{HandlerKind}
@@ -26,6 +27,10 @@ find_from (e ∷ es) x i = cond (contains e x) (Some (i, e)) (find_from es x (i 
 abbrev pub kind_number : HandlerKind → ℕ
 kind_number Consuming = 0
 kind_number Cleanup = 1
+
+-- a number and the kind whose number it is, or an error with a number that no kind has
+abbrev pub Kinds : ℕ → Result HandlerKind NoKind → Type 0
+Kinds n r = MatchResult r (λ kind. kind_number kind ≡ n) (λ e. (e.0 ≡ n) × (1 < n))
 
 -- an entry as a row of the exception table
 abbrev pub entry_row : ExceptionEntry → HandlerRow

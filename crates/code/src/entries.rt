@@ -1,8 +1,49 @@
 // The records of the location and exception tables, by value, with code.rs's methods.
 ghost use Rattle.std.specs.Prelude.{◌≡◌};
-ghost use Rattle.code.specs.Entries.{contains, pushes_exception};
+ghost use Rattle.code.specs.Entries.{Kinds, contains, entry_row, kind_number, pushes_exception};
 
-use crate::{CodeRange, ExceptionEntry, HandlerKind, LocationEntry, lookups};
+use crate::{CodeRange, ExceptionEntry, HandlerKind, HandlerRow, LocationEntry, lookups};
+
+// A number that is no kind's.
+#[derive(Clone, Copy, Debug, PartialEq, Eq)]
+pub struct NoKind(pub u32);
+
+impl TryFrom<u32> for HandlerKind {
+    type Error = NoKind;
+
+    ghost try_from_gives = { Kinds };
+
+    fn try_from(number: u32) -> Result<Self, NoKind> {
+        match number {
+            0 => Ok(HandlerKind::Consuming),
+            1 => Ok(HandlerKind::Cleanup),
+            _ => Err(NoKind(number)),
+        }
+    }
+}
+
+impl From<HandlerKind> for u32 {
+    ghost from_gives = { λ kind number. number ≡ kind_number kind };
+
+    fn from(kind: HandlerKind) -> u32 {
+        kind as u32
+    }
+}
+
+impl From<ExceptionEntry> for HandlerRow {
+    ghost from_gives = { λ entry row. row ≡ entry_row entry };
+
+    fn from(entry: ExceptionEntry) -> HandlerRow {
+        HandlerRow {
+            start: entry.start,
+            end: entry.end,
+            handler: entry.handler,
+            depth: u32::from(entry.stack_depth),
+            count: u32::from(entry.exception_stack_count),
+            kind: u32::from(entry.kind),
+        }
+    }
+}
 
 impl LocationEntry {
     pub fn new(bytecode_offset: u32, range: CodeRange, focus: Option<CodeRange>) -> Self
@@ -55,11 +96,7 @@ impl ExceptionEntry {
     pub fn pushes_exception(self) -> bool
         ensures { result ≡ pushes_exception self.kind }
     {
-        let kind = self.kind;
-        match kind {
-            HandlerKind::Consuming => true,
-            HandlerKind::Cleanup => false,
-        }
+        self.kind == HandlerKind::Consuming
     }
 
     // The handler's offset.

@@ -15,7 +15,7 @@ pub mod reading;
 pub mod signs;
 pub mod sizes;
 mod steps;
-mod store;
+pub mod store;
 pub mod writer;
 
 // How much of the lent code can be used.

@@ -1,6 +1,6 @@
-// Cells at the front of a slice, which has room for them.
+// Cells at the front of a slice, which has room for them, and words as bytes.
 ghost use Rattle.std.specs.Prelude.{◌≡◌, ◌≤◌, length};
-ghost use Rattle.code.specs.Bytes.{front};
+ghost use Rattle.code.specs.Bytes.{front, word_bytes};
 
 // Bytes of code, or cells of a table.
 pub fn put<T: Copy>(out: &mut [T], cells: &[T])
@@ -8,4 +8,11 @@ pub fn put<T: Copy>(out: &mut [T], cells: &[T])
     ensures { out.new ≡ front cells.now out.old }
 {
     out[..cells.len()].copy_from_slice(cells);
+}
+
+// A word's two bytes, the low one first.
+pub fn halves(w: u16) -> [u8; 2]
+    ensures { result ≡ word_bytes w }
+{
+    w.to_le_bytes()
 }

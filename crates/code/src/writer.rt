@@ -7,20 +7,13 @@ ghost use Rattle.code.specs.Inner.{Writable};
 use crate::{decoder, signs, store};
 use op::{Operand, Refusal, Shape, Table, shapes};
 
-// A word's two bytes, the low one first.
-fn halves(w: u16) -> [u8; 2]
-    ensures { result ≡ word_bytes w }
-{
-    w.to_le_bytes()
-}
-
 // The names, two bytes each.
 fn write_names(out: &mut [u8], names: &[u16])
     requires { 2 * length names.now ≤ length out.old }
     ensures { out.new ≡ front (names_bytes names.now) out.old }
 {
     for (i, w) in names.iter().enumerate() {
-        let [low, high] = halves(*w);
+        let [low, high] = store::halves(*w);
         out[2 * i] = low;
         out[2 * i + 1] = high;
     }
@@ -42,7 +35,7 @@ fn write_attr_call(out: &mut [u8], opcode: u8, attribute: u16, positional: u8, n
     ensures { out.new ≡ front
         (opcode ∷ word_bytes attribute ++ positional ∷ n ∷ names_bytes names.now) out.old }
 {
-    let [low, high] = halves(attribute);
+    let [low, high] = store::halves(attribute);
     store::put(out, &[opcode, low, high, positional, n]);
     write_names(&mut out[5..], names);
 }
@@ -57,25 +50,25 @@ fn fill(out: &mut [u8], opcode: u8, operand: Operand, names: &[u16])
         Operand::U8(a) => store::put(out, &[opcode, a]),
         Operand::I8(x) => store::put(out, &[opcode, signs::byte_of(x)]),
         Operand::U16(w) => {
-            let [low, high] = halves(w);
+            let [low, high] = store::halves(w);
             store::put(out, &[opcode, low, high]);
         }
         Operand::Offset(x) => {
-            let [low, high] = halves(signs::word_of(x));
+            let [low, high] = store::halves(signs::word_of(x));
             store::put(out, &[opcode, low, high]);
         }
         Operand::U8U8(a, b) => store::put(out, &[opcode, a, b]),
         Operand::U16U8(w, a) => {
-            let [low, high] = halves(w);
+            let [low, high] = store::halves(w);
             store::put(out, &[opcode, low, high, a]);
         }
         Operand::U16U16(w, v) => {
-            let [low, high] = halves(w);
-            let [low_2, high_2] = halves(v);
+            let [low, high] = store::halves(w);
+            let [low_2, high_2] = store::halves(v);
             store::put(out, &[opcode, low, high, low_2, high_2]);
         }
         Operand::U16U8U8(w, a, b) => {
-            let [low, high] = halves(w);
+            let [low, high] = store::halves(w);
             store::put(out, &[opcode, low, high, a, b]);
         }
         Operand::CallKw {
@@ -88,8 +81,8 @@ fn fill(out: &mut [u8], opcode: u8, operand: Operand, names: &[u16])
             names: n,
         } => write_attr_call(out, opcode, attribute, positional, n, names),
         Operand::U16U16U8(w, v, a) => {
-            let [low, high] = halves(w);
-            let [low_2, high_2] = halves(v);
+            let [low, high] = store::halves(w);
+            let [low_2, high_2] = store::halves(v);
             store::put(out, &[opcode, low, high, low_2, high_2, a]);
         }
     }

@@ -43,6 +43,6 @@ returns c =
       le-leb _ _ c.if-constants-row.false,
       le-leb _ _ c.if-row.false,
       lt-ltb _ _ c.if-constants-row-2.false,
-      c.row1.ensures,
+      c.put.ensures,
       put_lent a.self.constants (a.value ∷ []) a.constants.now h,
     ) refl

@@ -71,7 +71,7 @@ returns c =
       le-leb _ _ c.if-exceptions-row.false,
       sym c.offsets_fit.ensures ∙ c.if-not-offsets_fit.false,
       lt-ltb _ _ c.if-exceptions-row-2.false,
-      c.row6.ensures,
-      c.kind_number.ensures,
+      c.put.ensures,
+      c.from.ensures,
       put_lent (a.self.exceptions * exception_cells) row a.exceptions.now h,
     ) refl

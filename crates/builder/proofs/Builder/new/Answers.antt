@@ -19,5 +19,5 @@ pub returns : goal.returns
 unfolding new_of
 returns c =
     let a = c.args in
-    rw (c.in-Some.is, lt-ltb _ _ c.if-starts-le0.false, c.fresh_at-2.ensures, c.row2.ensures)
+    rw (c.in-Some.is, lt-ltb _ _ c.if-starts-le0.false, c.fresh_at-2.ensures, c.put.ensures)
     (ap (kept _) (put_front _ a.starts.now))

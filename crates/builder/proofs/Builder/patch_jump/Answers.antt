@@ -11,7 +11,6 @@ use lib.ListN.{length}
 use mathlib.Core.Bool.{true}
 use mathlib.Core.Path.{◌≡◌, ◌∙◌, ap, sym}
 use Rattle.builder.proofs.Builder.patch_jump.Goals as goal
-
 use Rattle.builder.proofs.Builder.patch_jump.Goals.{Else-not-counts_sound, After-decide_mark}
 
 -- the counts are sound behind the test

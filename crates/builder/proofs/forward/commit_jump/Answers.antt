@@ -18,6 +18,6 @@ returns c =
       state = rw w.count refl;
       bytes = w.bytes;
       rows = w.rows;
-      mark = rw c.row4.ensures
+      mark = rw c.put.ensures
           (put_lent (a.core.marks * mark_cells) (mark_row open_kind a.core.code a.t) a.marks.now h);
     }

@@ -3,7 +3,7 @@
 use Rattle.builder.proofs.locations.write_row.Goals as goal
 
 pub returns-in-None : goal.returns-in-None
-returns-in-None c = rw c.in-None.is c.row6.ensures
+returns-in-None c = rw c.in-None.is c.put.ensures
 
 pub returns-in-Some : goal.returns-in-Some
-returns-in-Some c = rw c.in-Some.is c.row6-in-Some.ensures
+returns-in-Some c = rw c.in-Some.is c.put-in-Some.ensures

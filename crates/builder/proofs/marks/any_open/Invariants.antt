@@ -1,10 +1,6 @@
-use Prim.Native.Nat.{◌-◌, ◌≤◌}
 use Rattle.builder.specs.Marks.{any_open}
 use mathlib.Core.Path.{◌≡◌}
 use Rattle.builder.proofs.marks.any_open.Given as goal
 
 abbrev pub invariant-loop-i : goal.invariant-loop-i
-invariant-loop-i l = (l.i ≤ l.rows) × (l.found ≡ any_open l.i l.marks)
-
-abbrev pub decreases-loop-i : goal.decreases-loop-i
-decreases-loop-i l = l.rows - l.i
+invariant-loop-i l = l.found ≡ any_open l.i l.marks

@@ -20,6 +20,6 @@ returns c =
     let h : a.b.core.marks * mark_cells + 4 ≤ length a.marks.now = omega (arith, c.if-marks-row.false) in
     rw (
       lt-ltb _ _ c.if-marks-row.false,
-      c.row4.ensures,
+      c.put.ensures,
       put_lent (a.b.core.marks * mark_cells) (mark_row target_kind a.b.core.code a.d) a.marks.now h,
     ) refl

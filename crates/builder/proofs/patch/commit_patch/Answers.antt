@@ -14,6 +14,6 @@ returns c =
     let h : a.offset + 1 + 2 ≤ length a.code.now = omega (arith, c.requires.0) in
     record {
       state = refl;
-      bytes = rw c.put2.ensures (put_lent (a.offset + 1) (word_bytes a.w) a.code.now h);
+      bytes = rw (c.put.ensures, c.halves.ensures) (put_lent (a.offset + 1) (word_bytes a.w) a.code.now h);
       kind = refl;
     }

@@ -25,7 +25,7 @@ returns c =
     )
     (rw (
       c.instruction_size-size.ensures,
-      c.of_operand.ensures,
+      c.from.ensures,
       c.behind_op.ensures,
     ) at c.room.ensures)
 

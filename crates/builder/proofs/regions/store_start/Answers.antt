@@ -20,7 +20,7 @@ returns c =
     let h : a.b.starts * start_cells + 2 ≤ length a.starts.now = omega (arith, c.if-starts-row.false) in
     rw (
       lt-ltb _ _ c.if-starts-row.false,
-      c.row2.ensures,
+      c.put.ensures,
       put_lent (a.b.starts * start_cells) (a.b.core.code ∷ a.d ∷ []) a.starts.now h,
     )
     refl
