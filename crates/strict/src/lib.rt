@@ -7,7 +7,7 @@ ghost use Rattle.op.specs.Opcodes.{last_opcode};
 ghost use Rattle.strict.specs.Promise.{answer_of, Promise, Explains};
 ghost use Rattle.strict.specs.Inner.{FirstShort, Shortened, Judged, plainly, Strictly, Roomy};
 
-use checker::{Assignment, Checked, Explained, Reason};
+use checker::{Assignment, Reason};
 use code::{NO_DEPTH, lent};
 use op::{Refusal, needs};
 
@@ -18,18 +18,6 @@ pub enum Mode {
     Net,
     // besides, that the stack holds the values that the instruction needs
     Strict,
-}
-
-// What a check answers that says why.
-#[derive(Clone, Copy)]
-pub enum Verdict {
-    Accepted(Assignment),
-    // 10, 21, 1 or 22 with the offset, 20
-    Refused(Refusal),
-    // 23
-    Unsolved(Reason),
-    // 26: of the instructions that have fewer values than they need, the one at the lowest offset
-    TooFew { at: usize, depth: u32, need: u8 },
 }
 
 // The first offset whose cell holds less than its byte needs as an opcode; the code's length where there is none.
@@ -49,7 +37,7 @@ fn first_short(code: &[u8], cells: &[u32]) -> usize
 }
 
 // 26 of the instruction at an offset; no depth is left in its cell.
-fn refuse(code: &[u8], depths: &mut [u32], at: usize) -> Verdict
+fn refuse(code: &[u8], depths: &mut [u32], at: usize) -> Result<Assignment, Unfit>
     requires { (length code.now < length depths.old) × (at < length code.now) }
     ensures { Shortened code.now depths.old depths.new at result }
 {
@@ -57,11 +45,11 @@ fn refuse(code: &[u8], depths: &mut [u32], at: usize) -> Verdict
     let need = needs::need(code[at]);
     let end = code.len() + 1;
     lent::fill(&mut depths[..end], NO_DEPTH);
-    Verdict::TooFew { at, depth, need }
+    Err(Unfit::TooFew { at, depth, need })
 }
 
 // What becomes of depths that the old mode accepts.
-fn judge(code: &[u8], depths: &mut [u32], assignment: Assignment) -> Verdict
+fn judge(code: &[u8], depths: &mut [u32], assignment: Assignment) -> Result<Assignment, Unfit>
     requires { length code.now < length depths.old }
     ensures { Judged code.now depths.old depths.new assignment result }
 {
@@ -69,29 +57,29 @@ fn judge(code: &[u8], depths: &mut [u32], assignment: Assignment) -> Verdict
     if at < code.len() {
         return refuse(code, depths, at);
     }
-    Verdict::Accepted(assignment)
+    Ok(assignment)
 }
 
 // The old mode's answer.
-fn plain(explained: Explained) -> Verdict
+fn plain(explained: Result<Assignment, Unmet>) -> Result<Assignment, Unfit>
     ensures { result ≡ plainly explained }
 {
     match explained {
-        Explained::Accepted(assignment) => Verdict::Accepted(assignment),
-        Explained::Refused(refusal) => Verdict::Refused(refusal),
-        Explained::Unsolved(why) => Verdict::Unsolved(why),
+        Ok(assignment) => Ok(assignment),
+        Err(Unmet::Refused(refusal)) => Err(Unfit::Refused(refusal)),
+        Err(Unmet::Unsolved(why)) => Err(Unfit::Unsolved(why)),
     }
 }
 
 // What becomes of the old mode's answer.
-fn strictly(code: &[u8], depths: &mut [u32], explained: Explained) -> Verdict
+fn strictly(code: &[u8], depths: &mut [u32], explained: Result<Assignment, Unmet>) -> Result<Assignment, Unfit>
     requires { Roomy code.now depths.old explained }
     ensures { Strictly code.now depths.old depths.new explained result }
 {
     match explained {
-        Explained::Accepted(assignment) => judge(code, depths, assignment),
-        Explained::Refused(refusal) => Verdict::Refused(refusal),
-        Explained::Unsolved(why) => Verdict::Unsolved(why),
+        Ok(assignment) => judge(code, depths, assignment),
+        Err(Unmet::Refused(refusal)) => Err(Unfit::Refused(refusal)),
+        Err(Unmet::Unsolved(why)) => Err(Unfit::Unsolved(why)),
     }
 }
 
@@ -103,7 +91,7 @@ pub fn explain(
     starts: &[u32],
     depths: &mut [u32],
     work: &mut [u32],
-) -> Verdict
+) -> Result<Assignment, Unfit>
     ensures { Explains mode last_opcode code.now starts.now depths.old
         depths.new work.old work.new result }
 {
@@ -115,14 +103,14 @@ pub fn explain(
 }
 
 // The answer without the reason.
-fn answer_of(verdict: Verdict) -> Checked
+fn answer_of(verdict: Result<Assignment, Unfit>) -> Result<Assignment, Refusal>
     ensures { result ≡ answer_of verdict }
 {
     match verdict {
-        Verdict::Accepted(assignment) => Checked::Accepted(assignment),
-        Verdict::Refused(refusal) => Checked::Refused(refusal),
-        Verdict::Unsolved(_) => Checked::Refused(Refusal::NoDepths),
-        Verdict::TooFew { at, .. } => Checked::Refused(Refusal::TooFewValues(at)),
+        Ok(assignment) => Ok(assignment),
+        Err(Unfit::Refused(refusal)) => Err(refusal),
+        Err(Unfit::Unsolved(_)) => Err(Refusal::NoDepths),
+        Err(Unfit::TooFew { at, depth: _, need: _ }) => Err(Refusal::TooFewValues(at)),
     }
 }
 
@@ -133,7 +121,7 @@ pub fn check(
     starts: &[u32],
     depths: &mut [u32],
     work: &mut [u32],
-) -> Checked
+) -> Result<Assignment, Refusal>
     ensures { Promise mode last_opcode code.now starts.now depths.old
         depths.new work.old work.new result }
 {

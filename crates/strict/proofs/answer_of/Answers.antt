@@ -4,14 +4,14 @@ use mathlib.Core.Path.{sym, ap}
 use Rattle.strict.specs.Promise.{answer_of}
 use Rattle.strict.proofs.answer_of.Goals as goal
 
-pub returns-in-Accepted : goal.returns-in-Accepted
-returns-in-Accepted c = sym (ap answer_of c.in-Accepted.is)
+pub returns-in-Ok : goal.returns-in-Ok
+returns-in-Ok c = sym (ap answer_of c.in-Ok.is)
 
-pub returns-in-Refused : goal.returns-in-Refused
-returns-in-Refused c = sym (ap answer_of c.in-Refused.is)
+pub returns-in-Err : goal.returns-in-Err
+returns-in-Err c = sym (ap answer_of c.in-Err.is)
 
-pub returns-in-Unsolved : goal.returns-in-Unsolved
-returns-in-Unsolved c = sym (ap answer_of c.in-Unsolved.is)
+pub returns-in-Err : goal.returns-in-Err
+returns-in-Err c = sym (ap answer_of c.in-Err.is)
 
-pub returns-in-TooFew : goal.returns-in-TooFew
-returns-in-TooFew c = sym (ap answer_of c.in-TooFew.is)
+pub returns-in-Err : goal.returns-in-Err
+returns-in-Err c = sym (ap answer_of c.in-Err.is)

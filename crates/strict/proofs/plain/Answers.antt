@@ -4,11 +4,11 @@ use mathlib.Core.Path.{sym, ap}
 use Rattle.strict.specs.Inner.{plainly}
 use Rattle.strict.proofs.plain.Goals as goal
 
-pub returns-in-Accepted : goal.returns-in-Accepted
-returns-in-Accepted c = sym (ap plainly c.in-Accepted.is)
+pub returns-in-Ok : goal.returns-in-Ok
+returns-in-Ok c = sym (ap plainly c.in-Ok.is)
 
-pub returns-in-Refused : goal.returns-in-Refused
-returns-in-Refused c = sym (ap plainly c.in-Refused.is)
+pub returns-in-Err : goal.returns-in-Err
+returns-in-Err c = sym (ap plainly c.in-Err.is)
 
-pub returns-in-Unsolved : goal.returns-in-Unsolved
-returns-in-Unsolved c = sym (ap plainly c.in-Unsolved.is)
+pub returns-in-Err : goal.returns-in-Err
+returns-in-Err c = sym (ap plainly c.in-Err.is)

@@ -1,27 +1,16 @@
--- `checker::cells::greatest` meets its contract: the loop's invariant: the greatest so far and the cells from o on give
--- the greatest of all.
+-- `checker::cells::greatest` meets its contract: the greatest of the remainders, from 0 on.
 -- Assumes nothing.
-use mathlib.Core.Path.{refl, sym, ap, ◌∙◌}
-use Prim.Native.Nat.{ℕ, ◌+◌}
-use native.Mathlib.Omega.{arith}
-use lib.ListN.{drop}
-use Rattle.checker.specs.Inner.{greatest_from}
-use Rattle.checker.proofs.Deepest.{greatest_on, greatest_over}
+use Rattle.std.proofs.Common.{◌%◌, unwrap_or, ap, ◌∙◌, rules, tests}
+use Rattle.std.proofs.lemmas.Iterator.{YieldsList-from_slice, YieldsList-from_map}
+use Rattle.std.proofs.lemmas.Iterator.Consumers.{reduce_from_yields_List}
+use Rattle.std.proofs.lemmas.List.Folds.{max_of_map}
 use Rattle.checker.proofs.cells.greatest.Goals as goal
-
-pub loop-o-init : goal.loop-o-init
-loop-o-init c = (omega arith, refl)
-
-pub loop-o-preserved : goal.loop-o-preserved
-loop-o-preserved c =
-    let cells = c.args.cells.now in
-    let o = c.loop-o.o in (
-      omega arith,
-      ap (λ (m : ℕ). greatest_from m (drop (o + 1) cells)) c.greater-most.ensures
-          ∙ greatest_on cells c.loop-o.most o (omega arith) ∙ c.loop-o.invariant.1,
-    )
 
 pub returns : goal.returns
 returns c =
-    sym (greatest_over c.args.cells.now c.loop-o.most c.loop-o.o (omega arith))
-    ∙ c.loop-o.invariant.1
+    let s = c.args.cells.now in
+    c.unwrap_or.ensures
+    ∙ ap (λ o. unwrap_or o 0) (reduce_from_yields_List _ c.map.result _ c.max.ensures.ran
+    (YieldsList-from_map _ (λ x. x % 65536) (YieldsList-from_slice s cc) c.map.ensures.closure
+    (λ x b q k. search (rules, tests))))
+    ∙ max_of_map (λ x. x % 65536) s
