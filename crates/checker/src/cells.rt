@@ -19,9 +19,5 @@ pub fn before_last(cells: &[u32], all: usize) -> usize
 pub fn greatest(cells: &[u32]) -> u32
     ensures { result ≡ greatest_in cells.now }
 {
-    cells
-        .iter()
-        .map(|holds| *holds % NO_DEPTH)
-        .max()
-        .unwrap_or(0)
+    cells.iter().fold(0, |most, holds| most.max(*holds % NO_DEPTH))
 }

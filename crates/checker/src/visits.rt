@@ -6,7 +6,7 @@ ghost use Rattle.code.specs.declared.Goal.TheVariants.{To};
 ghost use Rattle.checker.specs.Inner.{place_mark, Ready, in_hand, Passes, Asked, Handed, Landed, FellInHand, Jumped, Moved};
 
 use crate::{Reason, walks};
-use code::{Change, Flow, Goal, NO_DEPTH, WORD_MAX};
+use code::{Change, Flow, Goal, WORD_MAX};
 
 // An instruction at an offset that has a depth.
 #[derive(Clone, Copy)]
