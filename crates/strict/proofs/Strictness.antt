@@ -1,9 +1,7 @@
 -- Laws of strict mode: the first cell that holds too little is the lowest instruction with too little; how a check in a
 -- mode keeps its promise, and what its answer says of the old mode.
 -- Assumes nothing.
-use Rattle.strict.specs.declared.Unfit.{Unfit}
-use Rattle.checker.specs.declared.Unmet.{Unmet}
-use Rattle.std.specs.Prelude.{Ok, Err, Result}
+use Rattle.std.specs.Prelude.{Option, None, Some, Result, Ok, Err}
 use mathlib.Core.Path.{◌≡◌, refl, sym, ap, subst, ◌∙◌}
 use mathlib.Core.List.{List, ◌++◌}
 use mathlib.Core.Logic.{⊎_elim, inl, inr}
@@ -24,6 +22,8 @@ use Rattle.code.specs.Flow.{flow_of}
 use Rattle.code.proofs.Assigning.{smallest_agree}
 use Rattle.code.proofs.Places.{stands_size}
 use Rattle.checker.specs.declared.Assignment.{Assignment}
+use Rattle.checker.specs.declared.Unmet.{Unmet}
+use Rattle.checker.specs.declared.Unmet.TheVariants.{Refused, Unsolved}
 use Rattle.checker.specs.Cells.{cell, depth_in}
 use Rattle.checker.specs.Inner.{NoFault}
 use Rattle.checker.specs.Promise.{Became, Accepts, Unless, stops, passes, Promise as OldPromise}
@@ -34,50 +34,11 @@ use Rattle.checker.proofs.Promising.{accepted, accepted_whole, part_size, promis
 use Rattle.checker.proofs.Solutions.{stands_by}
 use Rattle.strict.specs.declared.Mode.{Mode}
 use Rattle.strict.specs.declared.Mode.TheVariants.{Net, Strict}
+use Rattle.strict.specs.declared.Unfit.{Unfit}
+use Rattle.strict.specs.declared.Unfit.TheVariants as J
 use Rattle.strict.specs.Promise.{Short, Lowest, Stricter, Promise, TooFew, answer_of, Reasoned, Explains}
 use Rattle.strict.specs.Statements.{StrictAccepted, StrictRefused, CheckOne, ExplainOne}
-use Rattle.strict.specs.Inner.{FirstShort, Shortened, EnoughBefore, Judged, plainly, Strictly, Roomy}
-
--- the pass over the cells
-
-module _ (s c : List ℕ) (room : length s < length c) (r : ℕ) where
-  -- all that was looked at is enough
-  pub short_none : EnoughBefore s c r → r ≤ length s → length s ≤ r → FirstShort s c r
-  short_none before l m = record { fits = l; before = before; here = λ h. absurd (omega arith) }
-
-  pub short_here : EnoughBefore s c r → r < length s → get_or c r 0 < need_of (get_or s r 0) → FirstShort s c r
-  short_here before l h = record {
-    fits = omega arith;
-    before = before;
-    here = λ m. omega (arith, get_d_any c r 65536 0 (omega arith));
-  }
-
-  pub enough_here : r < length s → need_of (get_or s r 0) ≤ get_or c r 0 → need_of (get_or s r 0) ≤ cell c r
-  enough_here l h = omega (arith, get_d_any c r 65536 0 (omega arith))
-
-module _ (s c : List ℕ) (r : ℕ) (F : FirstShort s c r) where
-  pub judged_short : (a : Assignment) (c' : List ℕ) (v : Result Assignment Unfit) → length s < length c → r < length s
-      → Shortened s c c' r v → Judged s c c' a v
-  judged_short a c' v room l S =
-      let held : get_or c r 0 ≡ cell c r = get_d_any c r 0 65536 (omega arith) in
-      inr (
-        r,
-        record {
-          inside = l;
-          less = F.here l;
-          before = F.before;
-          answer = S.answer ∙ ap (λ (x : ℕ). Err (J.TooFew r x (need_of (get_or s r 0)))) held;
-          blank = S.blank;
-        },
-      )
-
-  pub judged_enough : (a : Assignment) → length s ≤ r → Judged s c c a (Ok a)
-  judged_enough a l = inl (λ o h. F.before o (omega arith), refl, refl)
-
--- the first cells were filled
-pub blanked : (s d c : List ℕ) → length s < length d → c ≡ replicate (length (take (length s + 1) d)) 65536
-    → Became s d (c ++ drop (length s + 1) d) (replicate (suc (length s)) 65536)
-blanked s d c l e = rw (e, part_size d (length s) l, add-one (length s)) refl
+use Rattle.strict.specs.Inner.{EnoughBefore, FirstAt, Shortened, Judged, unfit_of}
 
 -- where cells hold enough no instruction is short
 not_short : {last : ℕ} {s : List ℕ} (e : List ℕ) (n o : ℕ) → EnoughBefore s e n → o < n → Short last s (depth_in e) o → ⊥
@@ -126,9 +87,9 @@ module _ {last : ℕ} {s st d e w w' : List ℕ} {x : Result Assignment Refusal}
       (λ j. inr (
         j.0,
         record {
-          holds = short_at whole j.0 j.1.inside j.1.less;
+          holds = short_at whole j.0 j.1.first.inside j.1.first.less;
           least = λ q S. elim (dec_lt q j.0) [
-            | yes l ↦ absurd (not_short e j.0 q j.1.before l S)
+            | yes l ↦ absurd (not_short e j.0 q j.1.first.before l S)
             | no l ↦ omega arith
           ];
         },
@@ -148,10 +109,14 @@ module _ {last : ℕ} {s st d e w w' : List ℕ} {x : Result Assignment Refusal}
 
 -- two answers that are the same
 
-refused_one : {p q : Refusal} → Err p ≡ Err q → p ≡ q
+-- an answer without its reason
+abbrev Answer : Type 0
+Answer = Result Assignment Refusal
+
+refused_one : {p q : Refusal} → ◌≡◌ {A = Answer} (Err p) (Err q) → p ≡ q
 refused_one {p} {q} e = cc
 
-not_both : {a : Assignment} {q : Refusal} → Ok a ≡ Err q → ⊥
+not_both : {a : Assignment} {q : Refusal} → ◌≡◌ {A = Answer} (Ok a) (Err q) → ⊥
 not_both {a} {q} e = clash cc
 
 -- the old mode never refuses by 26
@@ -174,62 +139,61 @@ not_strict last s st d d' w w' o P =
 
 -- how a check in a mode keeps its promise
 
-plain_answer : (x : Result Assignment Unmet) → answer_of (plainly x) ≡ old_answer_of x
-plain_answer (Ok a) = refl
-plain_answer (Err (Refused q)) = refl
-plain_answer (Err (Unsolved why)) = refl
-
 module _ {last : ℕ} {s st d e w w' : List ℕ} where
-  pub roomy : (x : Result Assignment Unmet) → OldExplains last s st d e w w' x → Roomy s e x
-  roomy (Ok a) X = accepted_room (accepted X.promise refl)
-  roomy (Err (Refused q)) X = tt
-  roomy (Err (Unsolved why)) X = tt
-
-  plain_reasoned : (x : Result Assignment Unmet) → OldExplains last s st d e w w' x → Reasoned last s st (plainly x)
-  plain_reasoned (Ok a) X = tt
-  plain_reasoned (Err (Refused q)) X = (
+  -- what the old mode does not accept
+  err_reasoned : (u : Unmet) → OldExplains last s st d e w w' (Err u) → Reasoned last s st (Err (unfit_of u))
+  err_reasoned (Refused q) X = (
     X.reasoned,
     λ o z. not_strict last s st d e w w' o
         (subst (λ (p : Refusal). OldPromise last s st d e w w' (Err p)) z X.promise),
   )
-  plain_reasoned (Err (Unsolved why)) X = X.reasoned
+  err_reasoned (Unsolved why) X = X.reasoned
 
-  net_explains : (x : Result Assignment Unmet) → OldExplains last s st d e w w' x → Explains Net last s st d e w w' (plainly x)
-  net_explains x X = record {
-    promise = subst (OldPromise last s st d e w w') (sym (plain_answer x)) X.promise;
-    reasoned = plain_reasoned x X;
-  }
+  err_promise : (mode : Mode) (u : Unmet) → OldExplains last s st d e w w' (Err u)
+      → Promise mode last s st d e w w' (answer_of (Err (unfit_of u)))
+  err_promise Net (Refused q) X = X.promise
+  err_promise Net (Unsolved why) X = X.promise
+  err_promise Strict (Refused q) X =
+      record { old = Err q; left = e; promise = X.promise; stricter = (refl, refl) }
+  err_promise Strict (Unsolved why) X =
+      record { old = Err NoDepths; left = e; promise = X.promise; stricter = (refl, refl) }
 
-  pub by_net : (mode : Mode) (x : Result Assignment Unmet) (r : Result Assignment Unfit) → mode ≡ Net → r ≡ plainly x → OldExplains last s st d e w w' x
-      → Explains mode last s st d e w w' r
-  by_net mode x r m is X = rw (m, is) (net_explains x X)
+  module _ {x : Result Assignment Unmet} (X : OldExplains last s st d e w w' x) where
+    pub by_err : (mode : Mode) (u : Unmet) → x ≡ Err u → Explains mode last s st d e w w' (Err (unfit_of u))
+    by_err mode u is =
+        let Y = subst (OldExplains last s st d e w w') is X in
+        record { promise = err_promise mode u Y; reasoned = err_reasoned u Y }
 
-  stricter_by : (x : Result Assignment Unmet) (r : Result Assignment Unfit) (d' : List ℕ) → OldExplains last s st d e w w' x → Strictly s e d' x r
-      → Stricter last s d e d' (old_answer_of x) (answer_of r)
-  stricter_by (Ok a) r d' X j =
-      judged_stricter (accepted X.promise refl) (accepted_whole last s st d e w w' X.promise refl) a d' r j
-  stricter_by (Err (Refused q)) r d' X j = (ap answer_of j.0, j.1)
-  stricter_by (Err (Unsolved why)) r d' X j = (ap answer_of j.0, j.1)
+    -- what it accepts
+    module _ (a : Assignment) (is : x ≡ Ok a) where
+      told : OldExplains last s st d e w w' (Ok a)
+      told = subst (OldExplains last s st d e w w') is X
 
-  strict_reasoned : (x : Result Assignment Unmet) (r : Result Assignment Unfit) (d' : List ℕ) → OldExplains last s st d e w w' x → Strictly s e d' x r
-      → Reasoned last s st r
-  strict_reasoned (Ok a) r d' X j = ⊎_elim
-      (λ i. subst (Reasoned last s st) (sym i.1) tt)
-      (λ i. subst (Reasoned last s st) (sym i.1.answer)
-      (too_few (accepted X.promise refl) i.0 i.1.inside i.1.less)) j
-  strict_reasoned (Err (Refused q)) r d' X j = subst (Reasoned last s st) (sym j.0) (plain_reasoned (Err (Refused q)) X)
-  strict_reasoned (Err (Unsolved why)) r d' X j = subst (Reasoned last s st) (sym j.0) X.reasoned
+      old : Accepts last s st d e w w' (Ok a)
+      old = accepted told.promise refl
 
-  strict_explains : (x : Result Assignment Unmet) (r : Result Assignment Unfit) (d' : List ℕ) → OldExplains last s st d e w w' x
-      → Strictly s e d' x r → Explains Strict last s st d d' w w' r
-  strict_explains x r d' X j = record {
-    promise = record { old = old_answer_of x; left = e; promise = X.promise; stricter = stricter_by x r d' X j };
-    reasoned = strict_reasoned x r d' X j;
-  }
+      pub roomy : length s < length e
+      roomy = accepted_room old
 
-  pub by_strict : (mode : Mode) (x : Result Assignment Unmet) (r : Result Assignment Unfit) (d' : List ℕ) → mode ≡ Strict
-      → OldExplains last s st d e w w' x → Strictly s e d' x r → Explains mode last s st d d' w w' r
-  by_strict mode x r d' m X j = rw m (strict_explains x r d' X j)
+      module _ (d' : List ℕ) (r : Result Assignment Unfit) (J : Judged s e d' a r) where
+        strict_reasoned : Reasoned last s st r
+        strict_reasoned = ⊎_elim
+            (λ i. subst (Reasoned last s st) (sym i.1) tt)
+            (λ i. subst (Reasoned last s st) (sym i.1.answer) (too_few old i.0 i.1.first.inside i.1.first.less)) J
+
+        strict_explains : Explains Strict last s st d d' w w' r
+        strict_explains = record {
+          promise = record {
+            old = Ok a;
+            left = e;
+            promise = told.promise;
+            stricter = judged_stricter old (accepted_whole last s st d e w w' told.promise refl) a d' r J;
+          };
+          reasoned = strict_reasoned;
+        }
+
+        pub by_strict : (mode : Mode) → mode ≡ Strict → Explains mode last s st d d' w w' r
+        by_strict mode m = rw m strict_explains
 
 -- what a strict answer says of the old mode
 
@@ -280,7 +244,7 @@ check_one Strict last s st d d₁ d₂ w w₁ w₂ r₁ r₂ P Q =
 some_one : {x y : ℕ} → some x ≡ some y → x ≡ y
 some_one {x} {y} e = cc
 
-named_one : {o p : ℕ} → Err (TooFewValues o) ≡ Err (TooFewValues p) → o ≡ p
+named_one : {o p : ℕ} → ◌≡◌ {A = Answer} (Err (TooFewValues o)) (Err (TooFewValues p)) → o ≡ p
 named_one {o} {p} e = cc
 
 module _ (last : ℕ) (s st : List ℕ) where
@@ -288,7 +252,8 @@ module _ (last : ℕ) (s st : List ℕ) where
   depth_one {o} {p} {x} {y} {k} {n} e A B =
       some_one (sym A.has ∙ smallest_agree A.smallest B.smallest o ∙ ap B.assignment e ∙ B.has)
 
-  few_one : {o p x y k n : ℕ} → o ≡ p → TooFew last s st o x k → TooFew last s st p y n → Err (J.TooFew o x k) ≡ Err (J.TooFew p y n)
+  few_one : {o p x y k n : ℕ} → o ≡ p → TooFew last s st o x k → TooFew last s st p y n
+      → ◌≡◌ {A = Result Assignment Unfit} (Err (J.TooFew o x k)) (Err (J.TooFew p y n))
   few_one {o} {p} {x} {y} {k} {n} e A B =
       let needs : k ≡ n = A.needs ∙ ap (λ (q : ℕ). need_of (get_or s q 0)) e ∙ sym B.needs in
       rw (e, depth_one e A B, needs) refl
@@ -314,8 +279,3 @@ pub explain_one : ExplainOne
 explain_one mode last s st d d₁ d₂ w w₁ w₂ r₁ r₂ P Q =
     let same = check_one mode last s st d d₁ d₂ w w₁ w₂ (answer_of r₁) (answer_of r₂) P.promise Q.promise in
     (same, verdict_one last s st r₁ r₂ P.reasoned Q.reasoned same.0)
-
--- an answer that is given without its reason
-pub promised : {mode : Mode} {last : ℕ} {s st d d' w w' : List ℕ} (v : Result Assignment Unfit) (r : Result Assignment Refusal)
-    → Explains mode last s st d d' w w' v → r ≡ answer_of v → Promise mode last s st d d' w w' r
-promised v r X e = rw e X.promise

@@ -2,21 +2,22 @@
 -- the last opcode of the table, s the code, st the starts, d the depth slice before and d' after, w the work slice before
 -- and w' after, r the answer.
 -- Assumes nothing.
-use Rattle.strict.specs.declared.Unfit.{Unfit}
-use Rattle.checker.specs.declared.Assignment.{Assignment}
-use Rattle.op.specs.declared.Refusal.{Refusal}
 use Rattle.std.specs.Prelude.{◌≡◌, List, ◌⊎◌, ℕ, suc, ◌≤◌, ◌<◌, length, get_or, replicate, Ok, Err, Result}
 use Rattle.std.proofs.Math.Option.{Option, some}
 use Rattle.op.specs.Needs.{need_of}
+use Rattle.op.specs.declared.Refusal.{Refusal}
 use Rattle.op.specs.declared.Refusal.TheVariants.{NoDepths, TooFewValues}
 use Rattle.code.specs.Depths.{Stands, Place, Smallest}
 use Rattle.code.specs.Tables.{no_depth}
 use Rattle.code.specs.declared.Flow.{Flow}
+use Rattle.checker.specs.declared.Assignment.{Assignment}
 use Rattle.checker.specs.Cells.{depth_in}
 use Rattle.checker.specs.Promise.{Became, Promise as OldPromise}
 use Rattle.checker.specs.Reasons.{Because}
 use Rattle.strict.specs.declared.Mode.{Mode}
 use Rattle.strict.specs.declared.Mode.TheVariants.{Net, Strict}
+use Rattle.strict.specs.declared.Unfit.{Unfit}
+use Rattle.strict.specs.declared.Unfit.TheVariants as J
 
 -- an instruction whose depth is less than it needs; a gives the depths
 pub record Short (last : ℕ) (s : List ℕ) (a : ℕ → Option ℕ) (o : ℕ) : Type 0 where

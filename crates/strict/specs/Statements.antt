@@ -1,7 +1,6 @@
 -- What a strict check says of the old mode, R79, and that equal inputs give equal answers in either mode, R54. The proofs
 -- are laws of proofs/Strictness.antt.
 -- Assumes nothing.
-use Rattle.strict.specs.declared.Unfit.{Unfit}
 use Rattle.std.specs.Prelude.{◌≡◌, List, ℕ, Ok, Err, Result}
 use Rattle.op.specs.declared.Refusal.{Refusal}
 use Rattle.op.specs.declared.Refusal.TheVariants.{NoDepths, TooFewValues}
@@ -9,6 +8,7 @@ use Rattle.checker.specs.declared.Assignment.{Assignment}
 use Rattle.checker.specs.Promise.{Promise as OldPromise}
 use Rattle.checker.specs.Statements.{Same}
 use Rattle.strict.specs.declared.Mode.{Mode}
+use Rattle.strict.specs.declared.Unfit.{Unfit}
 use Rattle.strict.specs.Promise.{StrictPromise, Promise, Explains, answer_of}
 
 -- "What strict mode accepts the old mode accepts, with the same depths, count and greatest depth" (R79)
