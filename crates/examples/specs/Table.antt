@@ -1,11 +1,10 @@
 -- The rules' examples A to L, a single table and statement (R61), each about what a call's promise says of it.
 -- Assumes nothing.
-use Rattle.checker.specs.declared.Assignment.{Assignment}
-use Rattle.op.specs.declared.Refusal.{Refusal}
-use Rattle.std.specs.Prelude.{◌≡◌, List, [], ◌∷◌, ◌++◌, ℕ, ◌%◌, ◌<◌, negsuc, length, drop, replicate, Ok, Err, Result}
+use Rattle.std.specs.Prelude.{◌≡◌, List, [], ◌∷◌, ◌++◌, ℕ, ◌%◌, ◌<◌, negsuc, length, drop, replicate, Result, Ok, Err}
 use Rattle.op.specs.Opcodes.{last_opcode, Jump, RaiseUnboundLocal, ForIter, JumpIfTrueOrPop}
 use Rattle.op.specs.Refusals.{number_of}
 use Rattle.op.specs.declared.Operand.TheVariants.{U16, CallKw}
+use Rattle.op.specs.declared.Refusal.{Refusal}
 use Rattle.op.specs.declared.Refusal.TheVariants.{DepthBelowZero, JumpTooFar, TooManyKeywords, NameTooLarge}
 use Rattle.op.specs.declared.Refusal.TheVariants.{TooManyConstants, DepthsDiffer, NoDepths}
 use Rattle.code.specs.Bytes.{signed}
@@ -33,6 +32,7 @@ use Rattle.builder.specs.Forward.{jump_outcome, emit_jump_of}
 use Rattle.builder.specs.Back.{emit_jump_to_of}
 use Rattle.builder.specs.Patch.{patch_outcome, patch_jump_of}
 use Rattle.builder.specs.Constants.{added_kept, add_const_of}
+use Rattle.checker.specs.declared.Assignment.{Assignment}
 use Rattle.checker.specs.Promise.{Promise}
 
 -- a builder with so many bytes, marks and constants, and no location
