@@ -1,7 +1,6 @@
 -- A certificate that antt computes: cells that pass a test are the smallest assignment, and two depths that two paths
 -- lead to at one offset leave none. The examples rest on it.
 -- Assumes nothing.
-use Rattle.op.specs.declared.Refusal.{Refusal}
 use Rattle.std.specs.Prelude.{Ok, Err, Result}
 use mathlib.Core.Path.{◌≡◌, refl, sym, ap, subst, ◌∙◌}
 use mathlib.Core.Bool.{Bool, true, false, cond, ◌&&◌}
@@ -18,6 +17,7 @@ use Rattle.op.specs.declared.After.{After}
 use Rattle.op.specs.declared.After.TheVariants as A
 use Rattle.op.specs.declared.Refusal.TheVariants.{NoDepths}
 use Rattle.base.proofs.Keys.{every_from, in_range}
+use Rattle.op.specs.declared.Refusal.{Refusal}
 use Rattle.code.specs.declared.Change.{Change}
 use Rattle.code.specs.declared.Flow.{Flow}
 use Rattle.code.specs.declared.Flowing.{Flowing}

@@ -27,7 +27,7 @@ use Rattle.checker.specs.declared.visits.Passed.{Passed}
 use Rattle.checker.specs.Cells.{cell, depth_in, held}
 use Rattle.checker.specs.Promise.{Listed}
 use Rattle.checker.specs.Reasons.{Because}
-use Rattle.checker.specs.Inner.{Sound, KeptAt, place_mark, entry, Marks, Waits, Ready, Grew, GoesOn, Goes}
+use Rattle.checker.specs.Inner.{Sound, KeptAt, place_mark, entry, Marks, Waits, Ready, Grew, GoesOn}
 use Rattle.checker.specs.Inner.{in_hand, Took, PassesWith, Passes, Asked, Moved, Expanded, Draining, InHand, Followed}
 use Rattle.checker.specs.Inner.{HasStarts, Begun, Loaded, Drained, Came}
 use Rattle.checker.proofs.Holding.{depth_in_lem, in_depth, cell_in, all_are, held_le, held_none}

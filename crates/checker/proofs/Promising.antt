@@ -1,7 +1,6 @@
 -- Laws of the promise: how a check keeps it, what callers get from it, and that equal inputs give equal answers and
 -- cells.
 -- Assumes nothing.
-use Rattle.checker.specs.declared.Unmet.{Unmet}
 use Rattle.std.specs.Prelude.{Ok, Err, Result}
 use mathlib.Core.Path.{◌≡◌, refl, sym, ap, subst, ◌∙◌}
 use mathlib.Core.Bool.{true, false, ◌&&◌}
@@ -28,6 +27,7 @@ use Rattle.builder.specs.declared.Builder.{Builder}
 use Rattle.code.specs.Tables.{code_limit, start_cells, within}
 use Rattle.checker.specs.declared.Assignment.{Assignment}
 use Rattle.checker.specs.declared.Unmet.TheVariants.{Refused, Unsolved}
+use Rattle.checker.specs.declared.Unmet.{Unmet}
 use Rattle.checker.specs.Cells.{cell, depth_in}
 use Rattle.checker.specs.Promise.{TooLong, NoRoom, Listed, Astray, Solution, Became, Zeroed, Accepts, Unless}
 use Rattle.checker.specs.Promise.{stops, passes, Promise, built_sound, BuiltPromise}

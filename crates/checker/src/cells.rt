@@ -19,5 +19,7 @@ pub fn before_last(cells: &[u32], all: usize) -> usize
 pub fn greatest(cells: &[u32]) -> u32
     ensures { result ≡ greatest_in cells.now }
 {
-    cells.iter().fold(0, |most, holds| most.max(*holds % NO_DEPTH))
+    cells
+        .iter()
+        .fold(0, |most, holds| most.max(*holds % NO_DEPTH))
 }

@@ -1,19 +1,17 @@
 -- Laws of strict mode: the first cell that holds too little is the lowest instruction with too little; how a check in a
 -- mode keeps its promise, and what its answer says of the old mode.
 -- Assumes nothing.
-use Rattle.std.specs.Prelude.{Option, None, Some, Result, Ok, Err}
+use Rattle.std.specs.Prelude.{Result, Ok, Err}
 use mathlib.Core.Path.{◌≡◌, refl, sym, ap, subst, ◌∙◌}
 use mathlib.Core.List.{List, ◌++◌}
 use mathlib.Core.Logic.{⊎_elim, inl, inr}
 use mathlib.Core.Option.{some}
-use Prim.Native.Nat.{ℕ, suc, ◌+◌, ◌≤◌, ◌<◌}
-use native.Mathlib.Numerals.{add-one}
+use Prim.Native.Nat.{ℕ, suc, ◌<◌}
 use native.Mathlib.Decide.{dec_lt}
 use native.Mathlib.Omega.{arith}
-use lib.ListN.{length, get_or, take, drop, replicate, length-append, get_or-append}
+use lib.ListN.{length, get_or, drop, replicate, length-append, get_or-append}
 use lib.Seq.{drop-append_seam}
 use Rattle.base.proofs.Bools.{clash}
-use Rattle.base.proofs.Lists.{get_d_any}
 use Rattle.op.specs.Needs.{need_of}
 use Rattle.op.specs.declared.Refusal.{Refusal}
 use Rattle.op.specs.declared.Refusal.TheVariants.{NoDepths, TooFewValues}
@@ -27,10 +25,10 @@ use Rattle.checker.specs.declared.Unmet.TheVariants.{Refused, Unsolved}
 use Rattle.checker.specs.Cells.{cell, depth_in}
 use Rattle.checker.specs.Inner.{NoFault}
 use Rattle.checker.specs.Promise.{Became, Accepts, Unless, stops, passes, Promise as OldPromise}
-use Rattle.checker.specs.Reasons.{Explains as OldExplains, answer_of as old_answer_of}
+use Rattle.checker.specs.Reasons.{Explains as OldExplains}
 use Rattle.checker.proofs.Holding.{depth_in_lem, in_depth, depth_same}
 use Rattle.checker.proofs.Reasoning.{OfReading, fault_is}
-use Rattle.checker.proofs.Promising.{accepted, accepted_whole, part_size, promise_one}
+use Rattle.checker.proofs.Promising.{accepted, accepted_whole, promise_one}
 use Rattle.checker.proofs.Solutions.{stands_by}
 use Rattle.strict.specs.declared.Mode.{Mode}
 use Rattle.strict.specs.declared.Mode.TheVariants.{Net, Strict}
@@ -38,7 +36,7 @@ use Rattle.strict.specs.declared.Unfit.{Unfit}
 use Rattle.strict.specs.declared.Unfit.TheVariants as J
 use Rattle.strict.specs.Promise.{Short, Lowest, Stricter, Promise, TooFew, answer_of, Reasoned, Explains}
 use Rattle.strict.specs.Statements.{StrictAccepted, StrictRefused, CheckOne, ExplainOne}
-use Rattle.strict.specs.Inner.{EnoughBefore, FirstAt, Shortened, Judged, unfit_of}
+use Rattle.strict.specs.Inner.{EnoughBefore, Judged, unfit_of}
 
 -- where cells hold enough no instruction is short
 not_short : {last : ℕ} {s : List ℕ} (e : List ℕ) (n o : ℕ) → EnoughBefore s e n → o < n → Short last s (depth_in e) o → ⊥

@@ -1,14 +1,14 @@
 -- `checker::walks::mark_places` meets its contract: the loop's invariant: `at` is a place, and the places before it,
 -- and only places, are marked.
 -- Assumes nothing.
-use Rattle.op.specs.declared.Refusal.{Refusal}
 use Rattle.std.specs.Prelude.{Result}
 use mathlib.Core.Path.{refl, sym, subst}
 use native.Mathlib.Omega.{arith}
-use lib.ListN.{set, length-set}
+use lib.ListN.{set}
 use Rattle.op.specs.Opcodes.{last_opcode}
+use Rattle.op.specs.declared.Refusal.{Refusal}
 use Rattle.checker.specs.Inner.{place_mark, Sized, Walked}
-use Rattle.checker.proofs.Walking.{sized_in_code, sized_in, marking_none, at_inside, marking_on, walked}
+use Rattle.checker.proofs.Walking.{sized_in_code, sized_in, marking_none, marking_on, walked}
 use Rattle.checker.proofs.walks.mark_places.Goals as goal
 
 pub loop-at-init : goal.loop-at-init
