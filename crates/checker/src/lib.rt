@@ -89,9 +89,10 @@ pub fn explain(
     solving::within(code, starts, &mut depths[..end], &mut work[..end])
 }
 
-// Checks the code against its starts, an offset and a depth each. Where it is accepted, the first code.len() + 1 cells
-// of `depths` hold the smallest assignment, with 65,536 for none; on 23 they all hold 65,536; otherwise nothing is
-// written there. As many cells of `work` are used, and end with zeros but for 10 and 21.
+// Checks the code against its starts, an offset and a depth each; refuses with 10, 21, 1 or 22 with the offset, 20 and
+// 23. Where it is accepted, the first code.len() + 1 cells of `depths` hold the smallest assignment, with 65,536 for
+// none; on 23 they all hold 65,536; otherwise nothing is written there. As many cells of `work` are used, and end with
+// zeros but for 10 and 21.
 pub fn check(
     code: &[u8],
     starts: &[u32],

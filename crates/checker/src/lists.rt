@@ -1,5 +1,6 @@
 // The list of places still to visit. It stands in the work cells, beside the marks. A place is put on it, or is in
 // hand, when it gets its depth; so each is visited once.
+// The two lent slices are passed side by side: in a struct of two loans each clause would be longer.
 ghost use Rattle.std.specs.Prelude.{◌≡◌, suc, ◌<◌, ◌≤◌, length, replicate};
 ghost use Rattle.op.specs.Opcodes.{last_opcode};
 ghost use Rattle.code.specs.Tables.{word_max, no_depth};

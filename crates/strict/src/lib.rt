@@ -107,7 +107,7 @@ pub fn explain(
     }
 }
 
-// The same without the reason.
+// The same without the reason; besides what `checker::check` refuses, 26 in strict mode.
 pub fn check(
     mode: Mode,
     code: &[u8],
