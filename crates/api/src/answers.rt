@@ -9,7 +9,7 @@ ghost use Rattle.api.specs.Checks.{check_answer, greatest_told};
 ghost use Rattle.api.specs.Given.{flags_answer};
 ghost use Rattle.api.specs.Typed.{read_answer};
 
-use checker::{Assignment, Checked};
+use checker::Assignment;
 use op::{After, Compared, Effect, Refusal};
 use readback::Readback;
 
@@ -50,13 +50,13 @@ pub fn tell_accepted(assignment: Assignment, greatest: &mut u32) -> u64
 }
 
 // Tells a check's answer.
-pub fn tell_checked(checked: Checked, greatest: &mut u32) -> u64
+pub fn tell_checked(checked: Result<Assignment, Refusal>, greatest: &mut u32) -> u64
     ensures { (result ≡ check_answer checked)
         × (greatest.new ≡ greatest_told checked greatest.old) }
 {
     match checked {
-        Checked::Accepted(assignment) => tell_accepted(assignment, greatest),
-        Checked::Refused(refusal) => refused(refusal),
+        Ok(assignment) => tell_accepted(assignment, greatest),
+        Err(refusal) => refused(refusal),
     }
 }
 

@@ -7,9 +7,9 @@ ghost use Rattle.api.specs.Answers.{refused};
 ghost use Rattle.api.specs.Checks.{check_answer, greatest_told, reason_numbers, few_numbers, reason_cells};
 
 use crate::{answers, cells};
-use checker::Reason;
+use checker::{Assignment, Reason};
 use op::Refusal;
-use strict::Verdict;
+use strict::Unfit;
 
 // A reason's numbers.
 fn numbers_of(reason: Reason) -> [u64; 4]
@@ -46,16 +46,16 @@ fn tell_too_few(at: usize, depth: u32, need: u8, out: &mut [u64]) -> u64
 }
 
 // Tells a check's answer, and on 23 and 26 the reason.
-pub fn tell_verdict(verdict: Verdict, greatest: &mut u32, out: &mut [u64]) -> u64
+pub fn tell_verdict(verdict: Result<Assignment, Unfit>, greatest: &mut u32, out: &mut [u64]) -> u64
     requires { 4 ≤ length out.old }
     ensures { (result ≡ check_answer (answer_of verdict))
         × (greatest.new ≡ greatest_told (answer_of verdict) greatest.old)
         × (out.new ≡ reason_cells verdict out.old) }
 {
     match verdict {
-        Verdict::Accepted(assignment) => answers::tell_accepted(assignment, greatest),
-        Verdict::Refused(refusal) => answers::refused(refusal),
-        Verdict::Unsolved(reason) => tell_reason(reason, out),
-        Verdict::TooFew { at, depth, need } => tell_too_few(at, depth, need, out),
+        Ok(assignment) => answers::tell_accepted(assignment, greatest),
+        Err(Unfit::Refused(refusal)) => answers::refused(refusal),
+        Err(Unfit::Unsolved(reason)) => tell_reason(reason, out),
+        Err(Unfit::TooFew { at, depth, need }) => tell_too_few(at, depth, need, out),
     }
 }

@@ -1,6 +1,7 @@
 -- A certificate that antt computes: cells that pass a test are the smallest assignment, and two depths that two paths
 -- lead to at one offset leave none. The examples rest on it.
 -- Assumes nothing.
+use Rattle.std.specs.Prelude.{Ok, Err, Result}
 use mathlib.Core.Path.{◌≡◌, refl, sym, ap, subst, ◌∙◌}
 use mathlib.Core.Bool.{Bool, true, false, cond, ◌&&◌}
 use mathlib.Core.List.{List, ◌++◌}
@@ -16,6 +17,7 @@ use Rattle.op.specs.declared.After.{After}
 use Rattle.op.specs.declared.After.TheVariants as A
 use Rattle.op.specs.declared.Refusal.TheVariants.{NoDepths}
 use Rattle.base.proofs.Keys.{every_from, in_range}
+use Rattle.op.specs.declared.Refusal.{Refusal}
 use Rattle.code.specs.declared.Change.{Change}
 use Rattle.code.specs.declared.Flow.{Flow}
 use Rattle.code.specs.declared.Flowing.{Flowing}
@@ -26,8 +28,6 @@ use Rattle.code.specs.Flow.{flow_of}
 use Rattle.code.specs.Depths.{Stands, Place, Begins, Leads, Falls, Jumps, Kept, Assigns, Derived}
 use Rattle.code.proofs.Assigning.{leads_is, smallest, clash_depths}
 use Rattle.checker.specs.declared.Assignment.{Assignment}
-use Rattle.checker.specs.declared.Checked.{Checked}
-use Rattle.checker.specs.declared.Checked.TheVariants.{Accepted, Refused}
 use Rattle.checker.specs.Cells.{cell, depth_in, held}
 use Rattle.checker.specs.Promise.{Listed, Solution, Promise}
 use Rattle.checker.specs.Statements.{Same}
@@ -241,29 +241,29 @@ certified last s st c k t =
 
 -- so every check of such code answers and leaves just this
 pub must_accept : (last : ℕ) (s st c : List ℕ) (k : ℕ) → T (certificate last s st c k) → length s ≤ 1048576
-    → (d d' w w' : List ℕ) (r : Checked) → length s < length d → length s < length w
+    → (d d' w w' : List ℕ) (r : Result Assignment Refusal) → length s < length d → length s < length w
     → Promise last s st d d' w w' r
-    → Same r (Accepted (found_in s c)) d' (c ++ drop (suc (length s)) d)
+    → Same r (Ok (found_in s c)) d' (c ++ drop (suc (length s)) d)
     w' (replicate (suc (length s)) 0 ++ drop (suc (length s)) w)
 must_accept last s st c k t l d d' w w' r room space P =
     let C = certified last s st c k t in
     let e = c ++ drop (suc (length s)) d in
     let z = replicate (suc (length s)) 0 ++ drop (suc (length s)) w in
-    promise_one last s st d d' e w w' z r (Accepted (found_in s c)) P
+    promise_one last s st d d' e w w' z r (Ok (found_in s c)) P
     (promise_some last s st d w l room space e z refl C.whole C.listed c _ C.solution refl)
 
 -- two paths of at most k steps bring two depths to one offset
 pub must_refuse : (last : ℕ) (s st : List ℕ) (k o a b : ℕ) → T (input_ok last s st) → T (has o a (reached last s st k))
     → T (has o b (reached last s st k)) → (a ≡ b → ⊥) → length s ≤ 1048576
-    → (d d' w w' : List ℕ) (r : Checked) → length s < length d → length s < length w
+    → (d d' w w' : List ℕ) (r : Result Assignment Refusal) → length s < length d → length s < length w
     → Promise last s st d d' w w' r
-    → Same r (Refused NoDepths) d' (replicate (suc (length s)) 65536 ++ drop (suc (length s)) d)
+    → Same r (Err NoDepths) d' (replicate (suc (length s)) 65536 ++ drop (suc (length s)) d)
     w' (replicate (suc (length s)) 0 ++ drop (suc (length s)) w)
 must_refuse last s st k o a b t ta tb n l d d' w w' r room space P =
     let e = replicate (suc (length s)) 65536 ++ drop (suc (length s)) d in
     let z = replicate (suc (length s)) 0 ++ drop (suc (length s)) w in
     let D = reached_derived s st k o a (has_in o a (reached last s st k) ta) in
     let G = reached_derived s st k o b (has_in o b (reached last s st k) tb) in
-    promise_one last s st d d' e w w' z r (Refused NoDepths) P
+    promise_one last s st d d' e w w' z r (Err NoDepths) P
     (promise_none last s st d w l room space e z refl (input_whole last s st t) (input_listed last s st t)
     (clash_depths D G n) refl)

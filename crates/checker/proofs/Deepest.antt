@@ -5,17 +5,15 @@ use mathlib.Core.Path.{◌≡◌, refl, sym, ap, ◌∙◌}
 use mathlib.Core.List.{List, [], ◌∷◌}
 use mathlib.Core.Logic.{◌⊎◌, inl, inr}
 use mathlib.Core.Option.{Option, some, none}
-use Prim.Native.Nat.{ℕ, zero, suc, ◌+◌, ◌≤◌, ◌<◌}
+use Prim.Native.Nat.{ℕ, zero, suc, ◌≤◌, ◌<◌}
 use native.Mathlib.Decide.{dec_le}
-use native.Mathlib.Numerals.{add-one}
 use native.Mathlib.Omega.{arith}
-use lib.ListN.{length, get_or, drop, drop_of_length-le}
-use lib.Seq.{drop-cons}
 use Rattle.base.proofs.Bools.{clash}
 use Rattle.checker.specs.declared.Assignment.{Assignment}
 use Rattle.checker.specs.Cells.{cell, depth_in}
 use Rattle.checker.specs.Promise.{Greatest}
-use Rattle.checker.specs.Inner.{greater, greatest_from, greatest_in}
+use Rattle.std.specs.List.{fold}
+use Rattle.checker.specs.Inner.{greater, greatest_in}
 use Rattle.checker.proofs.Holding.{depth_in_lem, in_depth}
 
 -- what `greater` chooses
@@ -37,20 +35,6 @@ greater_chosen m x s = elim (dec_le x 65535) [
     which = inr (omega arith, λ i. absurd (omega arith));
   }
 ]
-
--- cell by cell
-
-pub greatest_on : (c : List ℕ) (m i : ℕ) → i < length c
-    → greatest_from (greater m (get_or c i 0)) (drop (i + 1) c) ≡ greatest_from m (drop i c)
-unfolding greatest_from
-greatest_on c m i l =
-    let e : drop i c ≡ get_or c i 0 ∷ drop (i + 1) c =
-    drop-cons c i 0 l ∙ ap (λ (j : ℕ). get_or c i 0 ∷ drop j c) (sym (add-one i)) in
-    sym (ap (greatest_from m) e)
-
-pub greatest_over : (c : List ℕ) (m i : ℕ) → length c ≤ i → greatest_from m (drop i c) ≡ m
-unfolding greatest_from
-greatest_over c m i l = ap (greatest_from m) (drop_of_length-le c l)
 
 -- g is the greatest of m and the depths in c
 
@@ -97,15 +81,14 @@ module _ (m x : ℕ) (c : List ℕ) (g : ℕ) (T : Tops (greater m x) c g) where
         first_or (λ d. d < m) w.1 (λ o d e. omega (arith, i.1 o d e, w.0)),
       )
 
-tops : (m : ℕ) (c : List ℕ) → ((o : ℕ) → cell c o ≤ 65536) → Tops m c (greatest_from m c)
-unfolding greatest_from
+tops : (m : ℕ) (c : List ℕ) → ((o : ℕ) → cell c o ≤ 65536) → Tops m c (fold greater m c)
 tops m [] small = record {
   over = omega arith;
   most = λ o d e. absurd (none_held o d e);
   assigned = inr (refl, λ o d e. absurd (none_held o d e));
 }
 tops m (x ∷ c) small =
-    tops_by m x c (greatest_from (greater m x) c) (tops (greater m x) c (λ o. small (suc o))) (greater_chosen m x (small 0))
+    tops_by m x c (fold greater (greater m x) c) (tops (greater m x) c (λ o. small (suc o))) (greater_chosen m x (small 0))
 
 -- the greatest depth in cells is their assignment's
 pub greatest_in_lem : (c : List ℕ) → ((o : ℕ) → cell c o ≤ 65536) → Greatest (depth_in c) (greatest_in c)

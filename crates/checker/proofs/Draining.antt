@@ -1,5 +1,6 @@
 -- What the starts, the visit of one offset and the loop over the list show.
 -- Assumes nothing.
+use Rattle.std.specs.Prelude.{Option, None, Some, Result, Ok, Err}
 use mathlib.Core.Path.{◌≡◌, refl, sym, ap, subst, ◌∙◌}
 use mathlib.Core.List.{List}
 use mathlib.Core.Logic.{◌⊎◌, ⊎_elim, inl, inr}
@@ -20,19 +21,14 @@ use Rattle.code.specs.declared.Flowing.TheVariants as F
 use Rattle.code.specs.Flow.{flow_of}
 use Rattle.code.specs.Depths.{Stands, Place, Kept, Derived, start}
 use Rattle.code.proofs.Places.{stands_one}
-use Rattle.checker.specs.declared.Passed.{Passed}
-use Rattle.checker.specs.declared.Passed.TheVariants.{Rests, Holds}
-use Rattle.checker.specs.declared.Passed.TheVariants as D
-use Rattle.checker.specs.declared.Ran.{Ran}
-use Rattle.checker.specs.declared.Ran.TheVariants as R
 use Rattle.checker.specs.declared.Reason.{Reason}
-use Rattle.checker.specs.declared.Went.{Went}
-use Rattle.checker.specs.declared.Went.TheVariants.{On, Stuck}
+use Rattle.checker.specs.declared.lists.Ran.{Ran}
+use Rattle.checker.specs.declared.visits.Passed.{Passed}
 use Rattle.checker.specs.Cells.{cell, depth_in, held}
 use Rattle.checker.specs.Promise.{Listed}
 use Rattle.checker.specs.Reasons.{Because}
-use Rattle.checker.specs.Inner.{Sound, KeptAt, place_mark, entry, Marks, Waits, Ready, Grew, GoesOn, Goes}
-use Rattle.checker.specs.Inner.{in_hand, Took, Passes, Asked, Moved, Expanded, Draining, InHand, Followed}
+use Rattle.checker.specs.Inner.{Sound, KeptAt, place_mark, entry, Marks, Waits, Ready, Grew, GoesOn}
+use Rattle.checker.specs.Inner.{in_hand, Took, PassesWith, Passes, Asked, Moved, Expanded, Draining, InHand, Followed}
 use Rattle.checker.specs.Inner.{HasStarts, Begun, Loaded, Drained, Came}
 use Rattle.checker.proofs.Holding.{depth_in_lem, in_depth, cell_in, all_are, held_le, held_none}
 use Rattle.checker.proofs.Growing.{says_on, says_stuck, says_map, grew_none, grew_then, marks_on, goes_map}
@@ -64,10 +60,10 @@ module _ {last : ℕ} {s : List ℕ} {at : ℕ} {x : Flowing} (is : x ≡ flow_o
   flow_fault {q} e f h = let i = h.is in clash cc
 
 module _ {last : ℕ} {s c w : List ℕ} {top at : ℕ} (R : Ready c w top) (deep : cell c at ≤ 65535) where
-  pub expanded_none : ((f : Flow) → Stands last s at f → ⊥) → Expanded last s c c w w top at (On top)
+  pub expanded_none : ((f : Flow) → Stands last s at f → ⊥) → Expanded last s c c w w top at (Ok top)
   expanded_none n st = says_on (record { grew = grew_none R; sound = λ M S. S; has = λ f h. absurd (n f h) })
 
-  pub expanded : {f : Flow} → Stands last s at f → (c' w' : List ℕ) (r : Went)
+  pub expanded : {f : Flow} → Stands last s at f → (c' w' : List ℕ) (r : Result ℕ Reason)
       → Moved f c c' w w' top at (get_or c at 0) r → Expanded last s c c' w w' top at r
   expanded {f} h c' w' r M st =
       let e : cell c at ≡ get_or c at 0 = get_d_any c at 65536 0 (deep_inside c at deep) in
@@ -90,7 +86,7 @@ beginning_none st R =
     record { grew = grew_none R; has = λ j l. absurd (not-suc-le-zero l); sound = λ last s L S. S }
 
 module _ {st c₀ c w₀ w : List ℕ} {k top : ℕ} (A : Beginning st c₀ c w₀ w k top) (lk : 2 * k + 1 < length st)
-    {o d : ℕ} (eo : o ≡ get_or st (2 * k) 0) (ed : d ≡ get_or st (2 * k + 1) 0) (c₁ w₁ : List ℕ) (x : Went)
+    {o d : ℕ} (eo : o ≡ get_or st (2 * k) 0) (ed : d ≡ get_or st (2 * k + 1) 0) (c₁ w₁ : List ℕ) (x : Result ℕ Reason)
     (B : Asked c c₁ w w₁ top o d x) where
   from_start : (last : ℕ) (s : List ℕ) → Listed last s st → Place last s o × Derived last s st o d
   from_start last s L = (
@@ -98,12 +94,11 @@ module _ {st c₀ c w₀ w : List ℕ} {k top : ℕ} (A : Beginning st c₀ c w�
     start (record { row = k; inside = lk; offset = sym eo; depth = sym ed }),
   )
 
-  pub begun_stuck : {why : Reason} → x ≡ Stuck why → Begun st c₀ c₁ w₀ w₁ x
+  pub begun_stuck : {why : Reason} → x ≡ Err why → Begun st c₀ c₁ w₀ w₁ (Err why)
   begun_stuck {why} e last s =
-      subst (λ (y : Went). Goes last s st (Listed last s st) (HasStarts st) c₀ c₁ w₀ w₁ 0 y) (sym e)
-      (says_stuck (λ L S. (B last s st).stuck why e (from_start last s L) (A.sound last s L S)))
+      says_stuck (λ L S. (B last s st).stuck why e (from_start last s L) (A.sound last s L S))
 
-  pub beginning_on : {t : ℕ} → x ≡ On t → Beginning st c₀ c₁ w₀ w₁ (k + 1) t
+  pub beginning_on : {t : ℕ} → x ≡ Ok t → Beginning st c₀ c₁ w₀ w₁ (k + 1) t
   beginning_on {t} e =
       let X = (B 0 st st).on t e in
       record {
@@ -115,7 +110,7 @@ module _ {st c₀ c w₀ w : List ℕ} {k top : ℕ} (A : Beginning st c₀ c w�
       }
 
 pub begun_on : {st c₀ c w₀ w : List ℕ} {k top : ℕ} → Beginning st c₀ c w₀ w k top → length st ≤ 2 * k + 1
-    → Begun st c₀ c w₀ w (On top)
+    → Begun st c₀ c w₀ w (Ok top)
 begun_on {st} {c₀} {c} A l last s = says_on (record {
   grew = A.grew;
   sound = A.sound last s;
@@ -212,11 +207,11 @@ module _ {last : ℕ} {s c₀ c w w₁ : List ℕ} {j taken at : ℕ} (A : Drain
   took_marks = marks_on A.marks same_marks
 
   module _ (c₁ w₂ : List ℕ) where
-    expanded_stuck : {why : Reason} → Expanded last s c c₁ w₁ w₂ j at (Stuck why) → (st : List ℕ)
+    expanded_stuck : {why : Reason} → Expanded last s c c₁ w₁ w₂ j at (Err why) → (st : List ℕ)
         → Sound last s st c₀ → Because last s st why
     expanded_stuck {why} E st S = (E st).stuck why refl took_marks (A.sound st S)
 
-    module _ {t : ℕ} (E : Expanded last s c c₁ w₁ w₂ j at (On t)) where
+    module _ {t : ℕ} (E : Expanded last s c c₁ w₁ w₂ j at (Ok t)) where
       X : GoesOn last s s (Marks last s w₁) (λ y. KeptAt last s y at (cell c at)) c c₁ w₁ w₂ j t
       X = (E s).on t refl
 
@@ -252,23 +247,26 @@ module _ {last : ℕ} {s c₀ c w w₁ : List ℕ} {j taken at : ℕ} (A : Drain
 
 -- the code is followed from a place in hand
 
-module _ {last : ℕ} {s c₀ c w : List ℕ} {top at k : ℕ} (A : InHand last s c₀ c w top at k) (c₁ w₁ : List ℕ) (r : Passed)
-    (E : Passes w₁ (λ x y. Expanded last s c c₁ w x top at y) r) where
-  passed : {q : Passed} → r ≡ q → Passes w₁ (λ x y. Expanded last s c c₁ w x top at y) q
-  passed e = subst (Passes w₁ (λ x y. Expanded last s c c₁ w x top at y)) e E
+module _ {last : ℕ} {s c₀ c w : List ℕ} {top at k : ℕ} (A : InHand last s c₀ c w top at k) (c₁ w₁ : List ℕ)
+    (r : Result Passed Reason) (E : Passes w₁ (λ x y. Expanded last s c c₁ w x top at y) r) where
+  pub followed_stuck : {why : Reason} → r ≡ Err why → (st : List ℕ) → Sound last s st c₀ → Because last s st why
+  followed_stuck e = expanded_stuck A.draining A.took c₁ w₁
+      (subst (Passes w₁ (λ x y. Expanded last s c c₁ w x top at y)) e E)
 
-  pub followed_rests : {t : ℕ} → r ≡ Rests t → Draining last s c₀ c₁ w₁ t (k + 1)
-  followed_rests e = draining_on A.draining A.took c₁ w₁ (passed e)
+  module _ {p : Passed} (ok : r ≡ Ok p) where
+    passed : {n : Option ℕ} → p.next ≡ n → PassesWith w₁ p.top (λ x y. Expanded last s c c₁ w x top at y) (Ok n)
+    passed e = subst (λ (n : Option ℕ). PassesWith w₁ p.top (λ x y. Expanded last s c c₁ w x top at y) (Ok n)) e
+        (subst (Passes w₁ (λ x y. Expanded last s c c₁ w x top at y)) ok E)
 
-  pub followed_stuck : {why : Reason} → r ≡ D.Stuck why → (st : List ℕ) → Sound last s st c₀ → Because last s st why
-  followed_stuck e = expanded_stuck A.draining A.took c₁ w₁ (passed e)
+    pub followed_rests : p.next ≡ None → Draining last s c₀ c₁ w₁ p.top (k + 1)
+    followed_rests e = draining_on A.draining A.took c₁ w₁ (passed e)
 
-  pub followed_holds : {t o : ℕ} → r ≡ Holds t o → InHand last s c₀ c₁ w₁ t o (k + 1)
-  followed_holds {t} {o} e = record {
-    list = in_hand w₁ t o;
-    draining = draining_on A.draining A.took c₁ (in_hand w₁ t o) (passed e).0;
-    took = (passed e).1;
-  }
+    pub followed_holds : {o : ℕ} → p.next ≡ Some o → InHand last s c₀ c₁ w₁ p.top o (k + 1)
+    followed_holds {o} e = record {
+      list = in_hand w₁ p.top o;
+      draining = draining_on A.draining A.took c₁ (in_hand w₁ p.top o) (passed e).0;
+      took = (passed e).1;
+    }
 
 -- the place that is taken off the list is in hand
 pub took_in_hand : {last : ℕ} {s c₀ c w w₁ : List ℕ} {top at k : ℕ} → Draining last s c₀ c w top k → 0 < top
@@ -277,19 +275,19 @@ took_in_hand {last} {s} {c} {w} {top} {k} A l T =
     let e : top ≡ top - 1 + 1 = omega arith in
     record { list = w; draining = subst (λ (t : ℕ). Draining last s c c w t k) e (draining_here A); took = T }
 
-module _ {last : ℕ} {s c₀ c w : List ℕ} {top k : ℕ} (A : Draining last s c₀ c w top k) (c₁ w₁ : List ℕ) (r : Ran)
-    (F : Followed last s c c₁ w₁ k r) where
-  ran : {q : Ran} → r ≡ q → Followed last s c c₁ w₁ k q
+module _ {last : ℕ} {s c₀ c w : List ℕ} {top k : ℕ} (A : Draining last s c₀ c w top k) (c₁ w₁ : List ℕ)
+    (r : Result Ran Reason) (F : Followed last s c c₁ w₁ k r) where
+  ran : {q : Result Ran Reason} → r ≡ q → Followed last s c c₁ w₁ k q
   ran e = subst (Followed last s c c₁ w₁ k) e F
 
-  pub drained_stuck : {why : Reason} → r ≡ R.Stuck why → Drained last s c₀ c₁ (Stuck why)
+  pub drained_stuck : {why : Reason} → r ≡ Err why → Drained last s c₀ c₁ (Err why)
   drained_stuck e = says_stuck (λ st S. ran e st (A.sound st S))
 
-  pub drained_on : {t n : ℕ} → r ≡ R.On t n → Draining last s c₀ c₁ w₁ t n
+  pub drained_on : {n : Ran} → r ≡ Ok n → Draining last s c₀ c₁ w₁ n.top n.taken
   drained_on e = draining_then A (ran e).1
 
   -- what falls: the cells less the places visited
-  pub drained_less : {t n : ℕ} → r ≡ R.On t n → length c₁ - n < length c - k
+  pub drained_less : {n : Ran} → r ≡ Ok n → length c₁ - n.taken < length c - k
   drained_less e = let h = ran e in omega (arith, h.0, h.1.weigh, held_le c₁, h.1.size)
 
 -- what is visited fits
@@ -298,7 +296,7 @@ pub draining_fits : {last : ℕ} {s c₀ c w : List ℕ} {top taken : ℕ} → D
 draining_fits {c} A = omega (arith, A.weigh, held_le c, A.size)
 
 pub drained : {last : ℕ} {s c₀ c w : List ℕ} {top taken : ℕ} → Draining last s c₀ c w top taken → top ≤ 0
-    → Drained last s c₀ c (On taken)
+    → Drained last s c₀ c (Ok taken)
 drained {top} A z = says_on (record {
   keeps = A.keeps;
   sound = A.sound;
@@ -309,7 +307,7 @@ drained {top} A z = says_on (record {
 -- the starts and all that follows
 
 module _ {last : ℕ} {s st c w : List ℕ} (blank : c ≡ replicate (suc (length s)) 65536) (M : Marks last s w)
-    (L : Listed last s st) (c₁ w₁ : List ℕ) (x : Went) (B : Begun st c c₁ w w₁ x) where
+    (L : Listed last s st) (c₁ w₁ : List ℕ) (x : Result ℕ Reason) (B : Begun st c c₁ w w₁ x) where
   no_depth_lem : (o d : ℕ) → depth_in c o ≡ some d → ⊥
   no_depth_lem o d h = let e = all_are (suc (length s)) 65536 c blank o in omega (arith, in_depth c o d h)
 
@@ -320,10 +318,10 @@ module _ {last : ℕ} {s st c w : List ℕ} (blank : c ≡ replicate (suc (lengt
     derived = λ o d h. absurd (no_depth_lem o d h);
   }
 
-  pub came_stuck : {why : Reason} → x ≡ Stuck why → (c' : List ℕ) → Came last s st c' (Stuck why)
+  pub came_stuck : {why : Reason} → x ≡ Err why → (c' : List ℕ) → Came last s st c' (Err why)
   came_stuck {why} e c' = says_stuck ((B last s).stuck why e L blank_sound)
 
-  module _ {top : ℕ} (e : x ≡ On top) where
+  module _ {top : ℕ} (e : x ≡ Ok top) where
     Y : GoesOn last s st (Listed last s st) (HasStarts st) c c₁ w w₁ 0 top
     Y = (B last s).on top e
 
@@ -335,7 +333,7 @@ module _ {last : ℕ} {s st c w : List ℕ} (blank : c ≡ replicate (suc (lengt
       weigh = omega (arith, Y.grew.weigh, ap held blank ∙ held_none (suc (length s)));
     }
 
-    pub came : (c₂ : List ℕ) (r : Went) → Drained last s c₁ c₂ r → Came last s st c₂ r
+    pub came : (c₂ : List ℕ) (r : Result ℕ Reason) → Drained last s c₁ c₂ r → Came last s st c₂ r
     came c₂ r D = says_map (λ k E.
         let S = E.sound st (Y.sound L blank_sound) in
         record {

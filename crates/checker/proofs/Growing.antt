@@ -1,6 +1,7 @@
 -- Laws of the list of places still to visit: what one more place does to it, pieces of work one behind the other, and
 -- the answers of such work.
 -- Assumes nothing.
+use Rattle.std.specs.Prelude.{Option, None, Some, Result, Ok, Err}
 use mathlib.Core.Path.{◌≡◌, refl, sym, ap, subst, ◌∙◌}
 use mathlib.Core.List.{List}
 use mathlib.Core.Logic.{◌⊎◌, ⊎_elim, inl, inr}
@@ -11,41 +12,42 @@ use native.Mathlib.Decide.{ℕ_discrete}
 use lib.ListN.{length, get_or, set, length-set}
 use lib.Seq.{get_or-set_same, get_or-set_other}
 use Rattle.base.proofs.Bools.{clash}
-use Rattle.checker.specs.declared.Passed.{Passed}
-use Rattle.checker.specs.declared.Passed.TheVariants.{Rests, Holds}
-use Rattle.checker.specs.declared.Passed.TheVariants as D
 use Rattle.checker.specs.declared.Reason.{Reason}
-use Rattle.checker.specs.declared.Went.{Went}
-use Rattle.checker.specs.declared.Went.TheVariants.{On, Stuck}
+use Rattle.checker.specs.declared.visits.Passed.{Passed}
 use Rattle.checker.specs.Cells.{cell, depth_in, held}
-use Rattle.checker.specs.Inner.{Sound, place_mark, entry, Marks, Waits, Ready, in_hand, Took, Passes, Grew, Says, Goes}
+use Rattle.checker.specs.Inner.{Sound, place_mark, entry, Marks, Waits, Ready, in_hand, Took, PassesWith, Passes, Grew, Says, Goes}
 use Rattle.checker.proofs.Holding.{in_depth, depth_same, set_at, held_le, held_set}
 
 -- answers
 
 module _ {A : ℕ → Type 0} {B : Reason → Type 0} where
-  pub says_on : {n : ℕ} → A n → Says A B (On n)
+  pub says_on : {n : ℕ} → A n → Says A B (Ok n)
   says_on {n} a = record { on = λ m e. subst A (one e) a; stuck = λ why e. clash cc }
     where
-      one : {m : ℕ} → On n ≡ On m → n ≡ m
+      one : {m : ℕ} → ◌≡◌ {A = Result ℕ Reason} (Ok n) (Ok m) → n ≡ m
       one {m} e = cc
 
-  pub says_stuck : {why : Reason} → B why → Says A B (Stuck why)
+  pub says_stuck : {why : Reason} → B why → Says A B (Err why)
   says_stuck {why} b = record { on = λ n e. clash cc; stuck = λ other e. subst B (one e) b }
     where
-      one : {other : Reason} → Stuck why ≡ Stuck other → why ≡ other
+      one : {other : Reason} → ◌≡◌ {A = Result ℕ Reason} (Err why) (Err other) → why ≡ other
       one {other} e = cc
 
-  pub says_map : {C : ℕ → Type 0} {D : Reason → Type 0} {r : Went} → ((n : ℕ) → A n → C n)
+  pub says_map : {C : ℕ → Type 0} {D : Reason → Type 0} {r : Result ℕ Reason} → ((n : ℕ) → A n → C n)
       → ((why : Reason) → B why → D why) → Says A B r → Says C D r
   says_map on stuck S =
       record { on = λ n e. on n (S.on n e); stuck = λ why e. stuck why (S.stuck why e) }
 
-pub passes_map : (w : List ℕ) {P Q : List ℕ → Went → Type 0} (r : Passed)
-    → ((x : List ℕ) (y : Went) → P x y → Q x y) → Passes w P r → Passes w Q r
-passes_map w (Rests t) f p = f w (On t) p
-passes_map w (Holds t o) f p = (f (in_hand w t o) (On (t + 1)) p.0, p.1)
-passes_map w (D.Stuck why) f p = f w (Stuck why) p
+pub passes_with : (w : List ℕ) (top : ℕ) {P Q : List ℕ → Result ℕ Reason → Type 0} (r : Result (Option ℕ) Reason)
+    → ((x : List ℕ) (y : Result ℕ Reason) → P x y → Q x y) → PassesWith w top P r → PassesWith w top Q r
+passes_with w top (Ok None) f p = f w (Ok top) p
+passes_with w top (Ok (Some o)) f p = (f (in_hand w top o) (Ok (top + 1)) p.0, p.1)
+passes_with w top (Err why) f p = f w (Err why) p
+
+pub passes_map : (w : List ℕ) {P Q : List ℕ → Result ℕ Reason → Type 0} (r : Result Passed Reason)
+    → ((x : List ℕ) (y : Result ℕ Reason) → P x y → Q x y) → Passes w P r → Passes w Q r
+passes_map w (Ok p) f h = passes_with w p.top (Ok p.next) f h
+passes_map w (Err why) f h = f w (Err why) h
 
 -- growth
 
@@ -162,7 +164,7 @@ marks_on M same = record {
 
 -- work that relies on less and shows more
 pub goes_map : {last : ℕ} {s st : List ℕ} {G H : Type 0} {P Q : List ℕ → Type 0} {c c' w w' : List ℕ} {top : ℕ}
-    {r : Went} → (H → Sound last s st c → G) → ((t : ℕ) → Grew c c' w w' top t → P c' → Q c')
+    {r : Result ℕ Reason} → (H → Sound last s st c → G) → ((t : ℕ) → Grew c c' w w' top t → P c' → Q c')
     → Goes last s st G P c c' w w' top r → Goes last s st H Q c c' w w' top r
 goes_map g p X = says_map
     (λ t Y. record { grew = Y.grew; sound = λ h S. Y.sound (g h S) S; has = p t Y.grew Y.has })

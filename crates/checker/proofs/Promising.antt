@@ -1,6 +1,7 @@
 -- Laws of the promise: how a check keeps it, what callers get from it, and that equal inputs give equal answers and
 -- cells.
 -- Assumes nothing.
+use Rattle.std.specs.Prelude.{Ok, Err, Result}
 use mathlib.Core.Path.{◌≡◌, refl, sym, ap, subst, ◌∙◌}
 use mathlib.Core.Bool.{true, false, ◌&&◌}
 use mathlib.Core.List.{List, ◌++◌}
@@ -25,10 +26,8 @@ use Rattle.code.proofs.Places.{fault_one}
 use Rattle.builder.specs.declared.Builder.{Builder}
 use Rattle.code.specs.Tables.{code_limit, start_cells, within}
 use Rattle.checker.specs.declared.Assignment.{Assignment}
-use Rattle.checker.specs.declared.Checked.{Checked}
-use Rattle.checker.specs.declared.Checked.TheVariants.{Accepted, Refused}
-use Rattle.checker.specs.declared.Explained.{Explained}
-use Rattle.checker.specs.declared.Explained.TheVariants as E
+use Rattle.checker.specs.declared.Unmet.TheVariants.{Refused, Unsolved}
+use Rattle.checker.specs.declared.Unmet.{Unmet}
 use Rattle.checker.specs.Cells.{cell, depth_in}
 use Rattle.checker.specs.Promise.{TooLong, NoRoom, Listed, Astray, Solution, Became, Zeroed, Accepts, Unless}
 use Rattle.checker.specs.Promise.{stops, passes, Promise, built_sound, BuiltPromise}
@@ -42,7 +41,7 @@ use Rattle.checker.proofs.Reasoning.{because_impossible, fault_not}
 -- how a check keeps it
 
 module _ (last : ℕ) (s st d w : List ℕ) where
-  promise_long : 1048576 < length s → Promise last s st d d w w (Refused TooLarge)
+  promise_long : 1048576 < length s → Promise last s st d d w w (Err TooLarge)
   unfolding Promise
   promise_long l = stops TooLarge (refl, l) (refl, refl, refl)
 
@@ -50,7 +49,7 @@ module _ (last : ℕ) (s st d w : List ℕ) where
     long_not : (q : Refusal) → TooLong s q → ⊥
     long_not q h = omega (arith, h.1)
 
-    promise_room : (length d ≤ length s) ⊎ (length w ≤ length s) → Promise last s st d d w w (Refused ShortDepths)
+    promise_room : (length d ≤ length s) ⊎ (length w ≤ length s) → Promise last s st d d w w (Err ShortDepths)
     unfolding Promise
     promise_room l = passes long_not (stops ShortDepths (refl, l) (refl, refl, refl))
 
@@ -59,12 +58,12 @@ module _ (last : ℕ) (s st d w : List ℕ) where
       room_not q h = ⊎_elim (λ l. omega arith) (λ l. omega arith) h.1
 
       module _ (d' w' : List ℕ) (zeroed : Zeroed s w w') where
-        promise_fault : (q : Refusal) → Faulty last s q → d' ≡ d → Promise last s st d d' w w' (Refused q)
+        promise_fault : (q : Refusal) → Faulty last s q → d' ≡ d → Promise last s st d d' w w' (Err q)
         unfolding Promise
         promise_fault q f e = passes long_not (passes room_not (stops q f (refl, e, zeroed)))
 
         module _ (whole : NoFault last s) where
-          promise_starts : (q : Refusal) → Astray last s st q → d' ≡ d → Promise last s st d d' w w' (Refused q)
+          promise_starts : (q : Refusal) → Astray last s st q → d' ≡ d → Promise last s st d d' w w' (Err q)
           unfolding Promise
           promise_starts q h e = passes long_not (passes room_not (passes whole (stops q h (refl, e, zeroed))))
 
@@ -73,13 +72,13 @@ module _ (last : ℕ) (s st d w : List ℕ) where
             listed_not q h = h.1 listed
 
             pub promise_none : Impossible last s st → Became s d d' (replicate (suc (length s)) 65536)
-                → Promise last s st d d' w w' (Refused NoDepths)
+                → Promise last s st d d' w w' (Err NoDepths)
             unfolding Promise
             promise_none n b = passes long_not (passes room_not (passes whole (passes listed_not
                 (stops NoDepths (refl, n) (refl, b, zeroed)))))
 
             pub promise_some : (c : List ℕ) (a : Assignment) → Solution last s st c a → Became s d d' c
-                → Promise last s st d d' w w' (Accepted a)
+                → Promise last s st d d' w w' (Ok a)
             unfolding Promise
             promise_some c a S b = passes long_not (passes room_not (passes whole (passes listed_not
                 (passes (λ q h. h.1 (depth_in c) S.smallest.assigns)
@@ -88,11 +87,11 @@ module _ (last : ℕ) (s st d w : List ℕ) where
 -- and names a reason
 
 module _ (last : ℕ) (s st d w : List ℕ) where
-  pub explained_long : 1048576 < length s → Explains last s st d d w w (E.Refused TooLarge)
+  pub explained_long : 1048576 < length s → Explains last s st d d w w (Err (Refused TooLarge))
   explained_long l = record { promise = promise_long last s st d w l; reasoned = λ e. clash cc }
 
   pub explained_room : length s ≤ 1048576 → (length d ≤ length s) ⊎ (length w ≤ length s)
-      → Explains last s st d d w w (E.Refused ShortDepths)
+      → Explains last s st d d w w (Err (Refused ShortDepths))
   explained_room short l = record { promise = promise_room last s st d w short l; reasoned = λ e. clash cc }
 
   -- what the work on the first cells leaves, and the rest of the slices
@@ -101,20 +100,20 @@ module _ (last : ℕ) (s st d w : List ℕ) where
     became x c y e = ap (λ (z : List ℕ). z ++ drop (length s + 1) x) e
         ∙ ap (λ (i : ℕ). y ++ drop i x) (add-one (length s))
 
-    pub explained_work : (c v : List ℕ) (r : Explained) → Examined last s st (take (length s + 1) d) c r
+    pub explained_work : (c v : List ℕ) (r : Result Assignment Unmet) → Examined last s st (take (length s + 1) d) c r
         → v ≡ replicate (suc (length s)) 0
         → Explains last s st d (c ++ drop (length s + 1) d) w (v ++ drop (length s + 1) w) r
-    explained_work c v (E.Accepted a) h z = record {
+    explained_work c v (Ok a) h z = record {
       promise = promise_some last s st d w short room space _ _ (became w v _ z) h.0 h.1 c a h.2
           (became d c c refl);
       reasoned = tt;
     }
-    explained_work c v (E.Unsolved why) h z = record {
+    explained_work c v (Err (Unsolved why)) h z = record {
       promise = promise_none last s st d w short room space _ _ (became w v _ z) h.0 h.1
           (because_impossible why h.2) (became d c _ h.3);
       reasoned = h.2;
     }
-    explained_work c v (E.Refused q) h z =
+    explained_work c v (Err (Refused q)) h z =
         let e : c ++ drop (length s + 1) d ≡ d =
         ap (λ (x : List ℕ). x ++ drop (length s + 1) d) h.1 ∙ take-append-drop (length s + 1) d in
         ⊎_elim
@@ -144,11 +143,11 @@ built_within b cl sl e =
     (leb-true _ _ q.0, omega arith)
 
 module _ (b : Builder) (s st d w : List ℕ) where
-  pub built_unsound : built_sound b (length s) (length st) ≡ false → BuiltPromise b s st d d w w (Refused Unsound)
+  pub built_unsound : built_sound b (length s) (length st) ≡ false → BuiltPromise b s st d d w w (Err Unsound)
   unfolding BuiltPromise
   built_unsound e = stops Unsound (refl, e) (refl, refl, refl)
 
-  pub built_used : built_sound b (length s) (length st) ≡ true → (d' w' : List ℕ) (r : Checked)
+  pub built_used : built_sound b (length s) (length st) ≡ true → (d' w' : List ℕ) (r : Result Assignment Refusal)
       → Promise last_opcode (take b.core.code s) (take (b.starts * start_cells) st) d d' w w' r
       → BuiltPromise b s st d d' w w' r
   unfolding BuiltPromise
@@ -162,12 +161,12 @@ past : {P A : Refusal → Type 0} {B C : Type 0} → Unless P A B → ((q : Refu
 past (stops q p a) no_way on = no_way q a
 past (passes n b) no_way on = on n b
 
-not_refused : {r : Checked} {a : Assignment} {q : Refusal} → r ≡ Accepted a → r ≡ Refused q → ⊥
+not_refused : {r : Result Assignment Refusal} {a : Assignment} {q : Refusal} → r ≡ Ok a → r ≡ Err q → ⊥
 not_refused {r} {a} {q} e h = clash cc
 
 -- what was accepted has no fault, and a solution
-accepted_all : (last : ℕ) (s st d d' w w' : List ℕ) {r : Checked} {a : Assignment} → Promise last s st d d' w w' r
-    → r ≡ Accepted a → NoFault last s × Accepts last s st d d' w w' r
+accepted_all : (last : ℕ) (s st d d' w w' : List ℕ) {r : Result Assignment Refusal} {a : Assignment} → Promise last s st d d' w w' r
+    → r ≡ Ok a → NoFault last s × Accepts last s st d d' w w' r
 unfolding Promise
 accepted_all last s st d d' w w' P e =
     past P (λ q a. absurd (not_refused e a.0)) (λ n P.
@@ -176,12 +175,12 @@ accepted_all last s st d d' w w' P e =
     past P (λ q a. absurd (not_refused e a.0)) (λ n P.
     past P (λ q a. absurd (not_refused e a.0)) (λ n P. (whole, P))))))
 
-pub accepted : {last : ℕ} {s st d d' w w' : List ℕ} {r : Checked} {a : Assignment} → Promise last s st d d' w w' r
-    → r ≡ Accepted a → Accepts last s st d d' w w' r
+pub accepted : {last : ℕ} {s st d d' w w' : List ℕ} {r : Result Assignment Refusal} {a : Assignment} → Promise last s st d d' w w' r
+    → r ≡ Ok a → Accepts last s st d d' w w' r
 accepted P e = (accepted_all _ _ _ _ _ _ _ P e).1
 
-pub accepted_whole : (last : ℕ) (s st d d' w w' : List ℕ) {r : Checked} {a : Assignment}
-    → Promise last s st d d' w w' r → r ≡ Accepted a → NoFault last s
+pub accepted_whole : (last : ℕ) (s st d d' w w' : List ℕ) {r : Result Assignment Refusal} {a : Assignment}
+    → Promise last s st d d' w w' r → r ≡ Ok a → NoFault last s
 accepted_whole last s st d d' w w' P e = (accepted_all last s st d d' w w' P e).0
 
 -- what is behind a stop that cannot be
@@ -190,7 +189,7 @@ passed (stops q p a) n = absurd (n q p)
 passed (passes m b) n = b
 
 -- past 10, 21, 1, 22 and 20, code is accepted when an assignment exists
-pub accepted_when : {last : ℕ} {s st d d' w w' : List ℕ} {r : Checked} → Promise last s st d d' w w' r
+pub accepted_when : {last : ℕ} {s st d d' w w' : List ℕ} {r : Result Assignment Refusal} → Promise last s st d d' w w' r
     → length s ≤ 1048576 → length s < length d → length s < length w → NoFault last s → Listed last s st
     → (a : ℕ → Option ℕ) → Assigns last s st a → Accepts last s st d d' w w' r
 unfolding Promise
@@ -245,15 +244,15 @@ promise_one last s st d d₁ d₂ w w₁ w₂ r₁ r₂ P Q =
     (unless_one (λ p q x y. named_one NoDepths p q x.0 y.0) kept
     both)))) P Q
   where
-    kept : {x y : List ℕ} (q : Refusal) → (r₁ ≡ Refused q) × (d₁ ≡ x) × (w₁ ≡ y)
-        → (r₂ ≡ Refused q) × (d₂ ≡ x) × (w₂ ≡ y) → Same r₁ r₂ d₁ d₂ w₁ w₂
+    kept : {x y : List ℕ} (q : Refusal) → (r₁ ≡ Err q) × (d₁ ≡ x) × (w₁ ≡ y)
+        → (r₂ ≡ Err q) × (d₂ ≡ x) × (w₂ ≡ y) → Same r₁ r₂ d₁ d₂ w₁ w₂
     kept q a b = (a.0 ∙ sym b.0, a.1 ∙ sym b.1, a.2 ∙ sym b.2)
 
     both : Accepts last s st d d₁ w w₁ r₁ → Accepts last s st d d₂ w w₂ r₂ → Same r₁ r₂ d₁ d₂ w₁ w₂
     both A B =
         let e = solution_cells A.solution B.solution in
         let h = solution_one A.solution B.solution in (
-          A.answer ∙ ap Accepted h ∙ sym B.answer,
+          A.answer ∙ ap Ok h ∙ sym B.answer,
           A.became ∙ ap (λ (c : List ℕ). c ++ drop (suc (length s)) d) e
               ∙ sym B.became,
           A.zeroed ∙ sym B.zeroed,

@@ -1,6 +1,7 @@
 -- What it shows that a place is asked to have a depth, and what one instruction asks of the places it goes to. One law
 -- for each return of the code.
 -- Assumes nothing.
+use Rattle.std.specs.Prelude.{Option, None, Some, Result, Ok, Err}
 use mathlib.Core.Path.{◌≡◌, refl, sym, subst, ◌∙◌}
 use mathlib.Core.Bool.{true, false}
 use mathlib.Core.List.{List}
@@ -20,32 +21,26 @@ use Rattle.code.specs.declared.Goal.TheVariants.{Nowhere, To, Outside}
 use Rattle.code.specs.Depths.{Place, Jumps, Derived, fall, jump}
 use Rattle.code.proofs.Assigning.{leads, leads_is}
 use Rattle.code.proofs.Places.{place_next}
-use Rattle.checker.specs.declared.Passed.{Passed}
-use Rattle.checker.specs.declared.Passed.TheVariants.{Rests, Holds}
-use Rattle.checker.specs.declared.Passed.TheVariants as D
 use Rattle.checker.specs.declared.Reason.{Reason}
 use Rattle.checker.specs.declared.Reason.TheVariants.{TwoDepths, NetOutOfRange, TakenOutOfRange, NoPlace}
-use Rattle.checker.specs.declared.Went.{Went}
-use Rattle.checker.specs.declared.Went.TheVariants.{On, Stuck}
 use Rattle.checker.specs.Cells.{cell, depth_in}
 use Rattle.checker.specs.Reasons.{Fails}
-use Rattle.checker.specs.Inner.{Sound, Here, place_mark, Ready, in_hand, Took, Passes, Landed, Asked, Handed, Fell}
+use Rattle.checker.specs.Inner.{Sound, Here, place_mark, Ready, in_hand, Took, PassesWith, Landed, Asked, Handed, Fell, FellInHand}
 use Rattle.checker.specs.Inner.{Jumped, Moved}
 use Rattle.checker.proofs.Holding.{depth_in_lem, in_depth, set_at, held_le}
-use Rattle.checker.proofs.Growing.{says_on, says_stuck, says_map, grew_none, grew_push, took_push}
+use Rattle.checker.proofs.Growing.{says_on, says_stuck, says_map, passes_with, grew_none, grew_push, took_push}
 use Rattle.checker.proofs.Growing.{grew_then, goes_map}
 
 -- changes
 
-pub landed_low : (d : ℕ) (c : Change) → d + c.up < c.down → Landed d c 65536
-landed_low d c l = record { leads = λ h. absurd (omega arith); out = λ h e k. omega (arith, (leads_is d c e k).0) }
+pub landed_low : (d : ℕ) (c : Change) → d + c.up < c.down → Landed d c None
+landed_low d c l = λ e k. omega (arith, (leads_is d c e k).0)
 
-pub landed_high : (d : ℕ) (c : Change) (t : ℕ) → t + c.down ≡ d + c.up → 65535 < t → Landed d c 65536
-landed_high d c t h l =
-    record { leads = λ k. absurd (omega arith); out = λ g e k. let z = leads_is d c e k in omega arith }
+pub landed_high : (d : ℕ) (c : Change) (t : ℕ) → t + c.down ≡ d + c.up → 65535 < t → Landed d c None
+landed_high d c t h l = λ e k. let z = leads_is d c e k in omega arith
 
-pub landed : (d : ℕ) (c : Change) (t : ℕ) → t + c.down ≡ d + c.up → t ≤ 65535 → Landed d c t
-landed d c t h l = record { leads = λ k. leads d c t h l; out = λ g. absurd (omega arith) }
+pub landed : (d : ℕ) (c : Change) (t : ℕ) → t + c.down ≡ d + c.up → t ≤ 65535 → Landed d c (Some t)
+landed d c t h l = (l, leads d c t h l)
 
 -- depths so far: a place without one gets one that is derived
 sound_set : {last : ℕ} {s st c : List ℕ} {o d : ℕ} → Sound last s st c → o < length c → d ≤ 65535 → Place last s o
@@ -70,12 +65,12 @@ module _ (c w : List ℕ) (top o d : ℕ) (R : Ready c w top) (inside : o < leng
   here : cell c o ≡ get_or c o 0
   here = get_d_any c o 65536 0 inside
 
-  pub asked_same : get_or c o 0 ≡ d → Asked c c w w top o d (On top)
+  pub asked_same : get_or c o 0 ≡ d → Asked c c w w top o d (Ok top)
   asked_same e last s st =
       says_on (record { grew = grew_none R; sound = λ g S. S; has = depth_in_lem c o d (here ∙ e) small })
 
   pub asked_clash : get_or c o 0 ≤ 65535 → (get_or c o 0 ≡ d → ⊥)
-      → Asked c c w w top o d (Stuck (TwoDepths o (get_or c o 0) d))
+      → Asked c c w w top o d (Err (TwoDepths o (get_or c o 0) d))
   asked_clash l n last s st = says_stuck (λ g S. record {
     place = g.0;
     one = S.derived o (get_or c o 0) (depth_in_lem c o (get_or c o 0) here l);
@@ -84,7 +79,7 @@ module _ (c w : List ℕ) (top o d : ℕ) (R : Ready c w top) (inside : o < leng
   })
 
   pub asked_fresh : 65535 < get_or c o 0
-      → Asked c (set c o d) w (in_hand w top o) top o d (On (top + 1)) × Took (in_hand w top o) w top o
+      → Asked c (set c o d) w (in_hand w top o) top o d (Ok (top + 1)) × Took (in_hand w top o) w top o
   asked_fresh l = let free : 65535 < cell c o = omega (arith, here) in (
     λ last s st. says_on (record {
       grew = grew_push R inside free small;
@@ -96,29 +91,30 @@ module _ (c w : List ℕ) (top o d : ℕ) (R : Ready c w top) (inside : o < leng
 
 -- what would be in hand is put on the list
 
-module _ (c c' : List ℕ) (top o d : ℕ) (r : Passed) (H : Handed c c' top o d r) (w : List ℕ) (R : Ready c w top) where
-  told : {q : Passed} → r ≡ q → Passes w (λ x y. Asked c c' w x top o d y) q
-  told e = subst (Passes w (λ x y. Asked c c' w x top o d y)) e (H w R)
+module _ (c c' : List ℕ) (o d : ℕ) (r : Result (Option ℕ) Reason) (H : Handed c c' o d r) (w : List ℕ) (top : ℕ)
+    (R : Ready c w top) where
+  told : {q : Result (Option ℕ) Reason} → r ≡ q → PassesWith w top (λ x y. Asked c c' w x top o d y) q
+  told e = subst (PassesWith w top (λ x y. Asked c c' w x top o d y)) e (H w top R)
 
-  pub asked_rests : {t : ℕ} → r ≡ Rests t → Asked c c' w w top o d (On t)
+  pub asked_rests : r ≡ Ok None → Asked c c' w w top o d (Ok top)
   asked_rests e = told e
 
-  pub asked_stuck : {why : Reason} → r ≡ D.Stuck why → Asked c c' w w top o d (Stuck why)
+  pub asked_stuck : {why : Reason} → r ≡ Err why → Asked c c' w w top o d (Err why)
   asked_stuck e = told e
 
-  module _ {t p : ℕ} (e : r ≡ Holds t p) where
-    pub room_in_hand : (t < length w) × (get_or w t 0 + p < 2 * place_mark)
+  module _ {p : ℕ} (e : r ≡ Ok (Some p)) where
+    pub room_in_hand : (top < length w) × (get_or w top 0 + p < 2 * place_mark)
     room_in_hand =
-        let G = (((told e).0 0 c c).on (t + 1) refl).grew in
-        let inside : t < length w =
-        omega (arith, G.ready.light, held_le c', G.ready.size, length-set w t (get_or w t 0 + p)) in
-        let same = get_or-set_same w t (get_or w t 0 + p) 0 inside in
-        (inside, omega (arith, G.ready.small t))
+        let G = (((told e).0 0 c c).on (top + 1) refl).grew in
+        let inside : top < length w =
+        omega (arith, G.ready.light, held_le c', G.ready.size, length-set w top (get_or w top 0 + p)) in
+        let same = get_or-set_same w top (get_or w top 0 + p) 0 inside in
+        (inside, omega (arith, G.ready.small top))
 
-    pub asked_put : {w' : List ℕ} {y : Went} → w' ≡ in_hand w t p → y ≡ On (t + 1) → Asked c c' w w' top o d y
-    asked_put {w'} {y} ew ey =
-        subst (λ (x : List ℕ). Asked c c' w x top o d y) (sym ew)
-        (subst (λ (z : Went). Asked c c' w (in_hand w t p) top o d z) (sym ey) (told e).0)
+    pub asked_put : {w' : List ℕ} {t : ℕ} → w' ≡ in_hand w top p → t ≡ top + 1 → Asked c c' w w' top o d (Ok t)
+    asked_put {w'} {t} ew et =
+        subst (λ (x : List ℕ). Asked c c' w x top o d (Ok t)) (sym ew)
+        (subst (λ (n : ℕ). Asked c c' w (in_hand w top p) top o d (Ok n)) (sym et) (told e).0)
 
 -- an instruction that has a depth, and a fault
 failing : {last : ℕ} {s st : List ℕ} {o d : ℕ} {f : Flow} {P : Flow → Type 0} → Here last s st o d f → P f
@@ -127,30 +123,31 @@ failing {f} h p = record { place = h.place; flow = f; stands = h.stands; derived
 
 -- falling through
 
-module _ (f : Flow) (c w : List ℕ) (top at d t : ℕ) (R : Ready c w top) (L : Landed d f.net t) where
-  pub fell_out : 65535 < t → Fell f c c w w top at d (Stuck (NetOutOfRange at d))
-  fell_out g last s st = says_stuck (λ h S. failing h (L.out g))
+module _ (f : Flow) (c w : List ℕ) (top at d : ℕ) (R : Ready c w top) where
+  pub fell_out : Landed d f.net None → Fell f c c w w top at d (Err (NetOutOfRange at d))
+  fell_out L last s st = says_stuck (λ h S. failing h L)
 
-  pub fell_stop : t ≤ 65535 → f.falls ≡ false → Fell f c c w w top at d (On top)
-  fell_stop g stays last s st = says_on (record {
-    grew = grew_none R;
-    sound = λ h S. S;
-    has = record { depth = t; leads = L.leads g; has = λ y. absurd (not_both y stays) };
-  })
+  module _ (t : ℕ) (L : Landed d f.net (Some t)) where
+    pub fell_stop : f.falls ≡ false → Fell f c c w w top at d (Ok top)
+    fell_stop stays last s st = says_on (record {
+      grew = grew_none R;
+      sound = λ h S. S;
+      has = record { depth = t; leads = L.1; has = λ y. absurd (not_both y stays) };
+    })
 
-  pub fell_on : (c' w' : List ℕ) (r : Went) → t ≤ 65535 → f.falls ≡ true → Asked c c' w w' top (at + f.size) t r
-      → Fell f c c' w w' top at d r
-  fell_on c' w' r g yes-falls W last s st = goes_map
-      (λ h S. (place_next h.place h.stands refl, fall h.derived h.stands yes-falls (L.leads g) refl))
-      (λ u G e. record { depth = t; leads = L.leads g; has = λ y. e }) (W last s st)
+    pub fell_on : (c' w' : List ℕ) (r : Result ℕ Reason) → f.falls ≡ true → Asked c c' w w' top (at + f.size) t r
+        → Fell f c c' w w' top at d r
+    fell_on c' w' r yes-falls W last s st = goes_map
+        (λ h S. (place_next h.place h.stands refl, fall h.derived h.stands yes-falls L.1 refl))
+        (λ u G e. record { depth = t; leads = L.1; has = λ y. e }) (W last s st)
 
 -- the taken jump
 
 module _ (f : Flow) (c w : List ℕ) (top at d : ℕ) (R : Ready c w top) where
-  pub jumped_not : f.goal ≡ Nowhere → Jumped f c c w w top at d (On top)
+  pub jumped_not : f.goal ≡ Nowhere → Jumped f c c w w top at d (Ok top)
   jumped_not g last s st = says_on (record { grew = grew_none R; sound = λ h S. S; has = λ y. absurd (y g) })
 
-  pub jumped_outside : f.goal ≡ Outside → Jumped f c c w w top at d (Stuck (NoPlace at d))
+  pub jumped_outside : f.goal ≡ Outside → Jumped f c c w w top at d (Err (NoPlace at d))
   jumped_outside g last s st =
       says_stuck (λ h S. failing h.0 (record { jumps = λ n. clash cc; astray = λ t e p. clash cc }))
 
@@ -161,7 +158,7 @@ module _ (f : Flow) (c w : List ℕ) (top at d : ℕ) (R : Ready c w top) where
     same_target : {q : ℕ} → f.goal ≡ To q → q ≡ t
     same_target {q} e = cc
 
-    pub jumped_astray : leb place_mark (get_or w t 0) ≡ false → Jumped f c c w w top at d (Stuck (NoPlace at d))
+    pub jumped_astray : leb place_mark (get_or w t 0) ≡ false → Jumped f c c w w top at d (Err (NoPlace at d))
     jumped_astray b last s st = says_stuck (λ h S. failing h.0 (record {
       jumps = is_jump;
       astray = λ q e p.
@@ -176,27 +173,26 @@ module _ (f : Flow) (c w : List ℕ) (top at d : ℕ) (R : Ready c w top) where
           absurd (omega (arith, leb-true place_mark (get_or w t 0) b)))
     ]
 
-    module _ (e : ℕ) (L : Landed d f.taken e) where
-      pub jumped_out : 65535 < e → Jumped f c c w w top at d (Stuck (TakenOutOfRange at d))
-      jumped_out l last s st = says_stuck (λ h S. failing h.0 (record { jumps = is_jump; leaves = L.out l }))
+    pub jumped_out : Landed d f.taken None → Jumped f c c w w top at d (Err (TakenOutOfRange at d))
+    jumped_out L last s st = says_stuck (λ h S. failing h.0 (record { jumps = is_jump; leaves = L }))
 
-      pub jumped_on : (c' w' : List ℕ) (r : Went) → leb place_mark (get_or w t 0) ≡ true → e ≤ 65535
-          → Asked c c' w w' top t e r → Jumped f c c' w w' top at d r
-      jumped_on c' w' r b l W last s st = goes_map
-          (λ h S. (h.1.only t (leb-true _ _ b), jump h.0.derived h.0.stands g (L.leads l)))
-          (λ u G has n. record { target = t; depth = e; goes = g; leads = L.leads l; has = has }) (W last s st)
+    pub jumped_on : (e : ℕ) → Landed d f.taken (Some e) → (c' w' : List ℕ) (r : Result ℕ Reason)
+        → leb place_mark (get_or w t 0) ≡ true → Asked c c' w w' top t e r → Jumped f c c' w w' top at d r
+    jumped_on e L c' w' r b W last s st = goes_map
+        (λ h S. (h.1.only t (leb-true _ _ b), jump h.0.derived h.0.stands g L.1))
+        (λ u G has n. record { target = t; depth = e; goes = g; leads = L.1; has = has }) (W last s st)
 
 -- both
 
-module _ (f : Flow) (c c₁ w w₁ : List ℕ) (top at d : ℕ) (x : Went) (J : Jumped f c c₁ w w₁ top at d x) where
-  pub moved_stuck : {why : Reason} → x ≡ Stuck why → Moved f c c₁ w w₁ top at d (Stuck why)
+module _ (f : Flow) (c c₁ w w₁ : List ℕ) (top at d : ℕ) (x : Result ℕ Reason) (J : Jumped f c c₁ w w₁ top at d x) where
+  pub moved_stuck : {why : Reason} → x ≡ Err why → Moved f c c₁ w w₁ top at d (Err why)
   moved_stuck {why} e last s st = says_stuck ((J last s st).stuck why e)
 
-  module _ {mid : ℕ} (e : x ≡ On mid) where
+  module _ {mid : ℕ} (e : x ≡ Ok mid) where
     pub moved_ready : Ready c₁ w₁ mid
     moved_ready = ((J 0 c c).on mid e).grew.ready
 
-    pub moved_on : (c₂ w₂ : List ℕ) (r : Went) → Fell f c₁ c₂ w₁ w₂ mid at d r → Moved f c c₂ w w₂ top at d r
+    pub moved_on : (c₂ w₂ : List ℕ) (r : Result ℕ Reason) → Fell f c₁ c₂ w₁ w₂ mid at d r → Moved f c c₂ w w₂ top at d r
     moved_on c₂ w₂ r F last s st =
         let X = (J last s st).on mid e in
         says_map
@@ -211,3 +207,9 @@ module _ (f : Flow) (c c₁ w w₁ : List ℕ) (top at d : ℕ) (x : Went) (J : 
             → Jumps (depth_in c₂) f d
         jumps_on keeps K =
             record { target = K.target; depth = K.depth; goes = K.goes; leads = K.leads; has = keeps _ _ K.has }
+
+    -- and the place behind the instruction may be in hand
+    pub moved_in_hand : (c₂ : List ℕ) (r : Result (Option ℕ) Reason) → FellInHand f c₁ c₂ at d r
+        → {q : Result (Option ℕ) Reason} → r ≡ q → PassesWith w₁ mid (λ y z. Moved f c c₂ w y top at d z) q
+    moved_in_hand c₂ r F e = subst (PassesWith w₁ mid (λ y z. Moved f c c₂ w y top at d z)) e
+        (passes_with w₁ mid r (λ y z. moved_on c₂ y z) (F w₁ mid moved_ready))

@@ -1,9 +1,11 @@
 -- What the checker's inner functions promise one another. `last` is the last opcode of the table; c are the depth cells
 -- of the code and its end before a call, c' after it, w and w' the work cells beside them.
 -- Assumes nothing.
-use Rattle.std.specs.Prelude.{◌≡◌, Bool, true, false, List, [], ◌∷◌, ◌⊎◌, ℕ, suc, ◌+◌, ◌-◌, ◌*◌, ◌/◌, ◌%◌, ◌≤◌, ◌<◌, max, length, get_or, set, replicate}
+use Rattle.std.specs.Prelude.{◌≡◌, Bool, true, false, List, ◌⊎◌, ℕ, suc, ◌+◌, ◌-◌, ◌*◌, ◌/◌, ◌%◌, ◌≤◌, ◌<◌, max, length, get_or, set, replicate, Option, None, Some, Result, Ok, Err}
 use Rattle.std.proofs.Math.Option.{some}
+use Rattle.std.specs.List.{fold}
 use Rattle.op.specs.declared.Refusal.{Refusal}
+use Rattle.op.specs.declared.Refusal.TheVariants.{NoDepths}
 use Rattle.code.specs.declared.Change.{Change}
 use Rattle.code.specs.declared.Flow.{Flow}
 use Rattle.code.specs.declared.Goal.TheVariants.{Nowhere}
@@ -12,18 +14,12 @@ use Rattle.code.specs.declared.Step.TheVariants.{Instr, End}
 use Rattle.code.specs.declared.Step.TheVariants as S
 use Rattle.code.specs.Depths.{Stands, Place, Faulty, Begins, Leads, Falls, Jumps, Kept, Assigns, Derived}
 use Rattle.code.specs.Tables.{code_limit, no_depth, word_max}
-use Rattle.checker.specs.declared.Explained.{Explained}
-use Rattle.checker.specs.declared.Explained.TheVariants.{Accepted, Refused, Unsolved}
-use Rattle.checker.specs.declared.Passed.{Passed}
-use Rattle.checker.specs.declared.Passed.TheVariants.{Rests, Holds}
-use Rattle.checker.specs.declared.Passed.TheVariants as D
-use Rattle.checker.specs.declared.Ran.{Ran}
-use Rattle.checker.specs.declared.Ran.TheVariants as R
+use Rattle.checker.specs.declared.Assignment.{Assignment}
 use Rattle.checker.specs.declared.Reason.{Reason}
-use Rattle.checker.specs.declared.Walk.{Walk}
-use Rattle.checker.specs.declared.Walk.TheVariants.{Fault, Whole}
-use Rattle.checker.specs.declared.Went.{Went}
-use Rattle.checker.specs.declared.Went.TheVariants.{On, Stuck}
+use Rattle.checker.specs.declared.Unmet.{Unmet}
+use Rattle.checker.specs.declared.Unmet.TheVariants.{Refused, Unsolved}
+use Rattle.checker.specs.declared.lists.Ran.{Ran}
+use Rattle.checker.specs.declared.visits.Passed.{Passed}
 use Rattle.checker.specs.Cells.{cell, depth_in, held}
 use Rattle.checker.specs.Promise.{Listed, Astray, Solution}
 use Rattle.checker.specs.Reasons.{Leaves, Because}
@@ -32,13 +28,8 @@ use Rattle.checker.specs.Reasons.{Leaves, Because}
 abbrev pub greater : ℕ → ℕ → ℕ
 greater most x = max most (x % no_depth)
 
--- the greatest depth of some cells and one more depth; of the cells alone
-unfoldable pub greatest_from : ℕ → List ℕ → ℕ
-greatest_from most [] = most
-greatest_from most (x ∷ xs) = greatest_from (greater most x) xs
-
 abbrev pub greatest_in : List ℕ → ℕ
-greatest_in c = greatest_from 0 c
+greatest_in c = fold greater 0 c
 
 -- the depths so far: each is a place's, and derived
 pub record Sound (last : ℕ) (s st c : List ℕ) : Type 0 where
@@ -96,11 +87,15 @@ pub record Took (w w' : List ℕ) (j o : ℕ) : Type 0 where
   pub there : (i : ℕ) → (i ≡ j → ⊥) → get_or w' i 0 ≡ get_or w i 0
 
 -- P of the list and of how the work on it went, where a place in hand is seen as if it stood on the list: so what is
--- said of lists is said of it too
-abbrev pub Passes : List ℕ → (List ℕ → Went → Type 0) → Passed → Type 0
-Passes w P (Rests t) = P w (On t)
-Passes w P (Holds t o) = P (in_hand w t o) (On (t + 1)) × Took (in_hand w t o) w t o
-Passes w P (D.Stuck why) = P w (Stuck why)
+-- said of lists is said of it too. `top` entries wait.
+abbrev pub PassesWith : List ℕ → ℕ → (List ℕ → Result ℕ Reason → Type 0) → Result (Option ℕ) Reason → Type 0
+PassesWith w top P (Ok None) = P w (Ok top)
+PassesWith w top P (Ok (Some o)) = P (in_hand w top o) (Ok (top + 1)) × Took (in_hand w top o) w top o
+PassesWith w top P (Err why) = P w (Err why)
+
+abbrev pub Passes : List ℕ → (List ℕ → Result ℕ Reason → Type 0) → Result Passed Reason → Type 0
+Passes w P (Ok p) = PassesWith w p.top P (Ok p.next)
+Passes w P (Err why) = P w (Err why)
 
 -- the list went on from `top` entries to t: each cell that got a depth waits, and there are as many entries more as
 -- depths, so each was put on the list once
@@ -115,9 +110,9 @@ pub record Grew (c c' w w' : List ℕ) (top t : ℕ) : Type 0 where
   pub weigh : held c + t ≡ held c' + top
 
 -- the answer r says A of a number, or B of a reason
-pub record Says (A : ℕ → Type 0) (B : Reason → Type 0) (r : Went) : Type 0 where
-  pub on : (n : ℕ) → r ≡ On n → A n
-  pub stuck : (why : Reason) → r ≡ Stuck why → B why
+pub record Says (A : ℕ → Type 0) (B : Reason → Type 0) (r : Result ℕ Reason) : Type 0 where
+  pub on : (n : ℕ) → r ≡ Ok n → A n
+  pub stuck : (why : Reason) → r ≡ Err why → B why
 
 -- a piece of work that relies on G went on: the depths are sound if they were, and P holds of them
 pub record GoesOn (last : ℕ) (s st : List ℕ) (G : Type 0) (P : List ℕ → Type 0) (c c' w w' : List ℕ) (top t : ℕ)
@@ -128,47 +123,49 @@ pub record GoesOn (last : ℕ) (s st : List ℕ) (G : Type 0) (P : List ℕ → 
 
 -- such work went on, or is stuck for a reason
 abbrev pub Goes : (last : ℕ) (s st : List ℕ) (G : Type 0) (P : List ℕ → Type 0) (c c' w w' : List ℕ) (top : ℕ)
-    → Went → Type 0
+    → Result ℕ Reason → Type 0
 Goes last s st G P c c' w w' top r =
     Says (GoesOn last s st G P c c' w w' top) (λ why. G → Sound last s st c → Because last s st why) r
 
 -- the place o is asked to have the depth d
-abbrev pub Asked : (c c' w w' : List ℕ) (top o d : ℕ) → Went → Type 0
+abbrev pub Asked : (c c' w w' : List ℕ) (top o d : ℕ) → Result ℕ Reason → Type 0
 Asked c c' w w' top o d r =
     (last : ℕ) (s st : List ℕ)
     → Goes last s st (Place last s o × Derived last s st o d) (λ x. depth_in x o ≡ some d) c c' w w' top r
 
 -- the same by work that has no list: with any list that is ready, what gets its depth is in hand
-abbrev pub Handed : (c c' : List ℕ) (top o d : ℕ) → Passed → Type 0
-Handed c c' top o d r = (w : List ℕ) → Ready c w top → Passes w (λ x y. Asked c c' w x top o d y) r
+abbrev pub Handed : (c c' : List ℕ) (o d : ℕ) → Result (Option ℕ) Reason → Type 0
+Handed c c' o d r =
+    (w : List ℕ) (top : ℕ) → Ready c w top → PassesWith w top (λ x y. Asked c c' w x top o d y) r
 
--- a depth after a change: 65,536 where it is out of range
-pub record Landed (d : ℕ) (change : Change) (r : ℕ) : Type 0 where
-  pub leads : r ≤ word_max → Leads d change r
-  pub out : word_max < r → Leaves d change
+-- a depth after a change, where it is in range
+abbrev pub Landed : (d : ℕ) (change : Change) → Option ℕ → Type 0
+Landed d change (Some e) = (e ≤ word_max) × Leads d change e
+Landed d change None = Leaves d change
 
 -- the instruction at `at` falls through, its jump is taken, and both
-abbrev pub Fell : (f : Flow) (c c' w w' : List ℕ) (top at d : ℕ) → Went → Type 0
+abbrev pub Fell : (f : Flow) (c c' w w' : List ℕ) (top at d : ℕ) → Result ℕ Reason → Type 0
 Fell f c c' w w' top at d r =
     (last : ℕ) (s st : List ℕ)
     → Goes last s st (Here last s st at d f) (λ x. Falls (depth_in x) f at d) c c' w w' top r
 
-abbrev pub FellInHand : (f : Flow) (c c' : List ℕ) (top at d : ℕ) → Passed → Type 0
-FellInHand f c c' top at d r = (w : List ℕ) → Ready c w top → Passes w (λ x y. Fell f c c' w x top at d y) r
+abbrev pub FellInHand : (f : Flow) (c c' : List ℕ) (at d : ℕ) → Result (Option ℕ) Reason → Type 0
+FellInHand f c c' at d r =
+    (w : List ℕ) (top : ℕ) → Ready c w top → PassesWith w top (λ x y. Fell f c c' w x top at d y) r
 
-abbrev pub Jumped : (f : Flow) (c c' w w' : List ℕ) (top at d : ℕ) → Went → Type 0
+abbrev pub Jumped : (f : Flow) (c c' w w' : List ℕ) (top at d : ℕ) → Result ℕ Reason → Type 0
 Jumped f c c' w w' top at d r =
     (last : ℕ) (s st : List ℕ)
     → Goes last s st (Here last s st at d f × Marks last s w) (λ x. (f.goal ≡ Nowhere → ⊥) → Jumps (depth_in x) f d)
     c c' w w' top r
 
-abbrev pub Moved : (f : Flow) (c c' w w' : List ℕ) (top at d : ℕ) → Went → Type 0
+abbrev pub Moved : (f : Flow) (c c' w w' : List ℕ) (top at d : ℕ) → Result ℕ Reason → Type 0
 Moved f c c' w w' top at d r =
     (last : ℕ) (s st : List ℕ)
     → Goes last s st (Here last s st at d f × Marks last s w) (λ x. Kept (depth_in x) f at d) c c' w w' top r
 
 -- what stands at `at`, whose offset has a depth, is visited
-abbrev pub Expanded : (last : ℕ) (s c c' w w' : List ℕ) (top at : ℕ) → Went → Type 0
+abbrev pub Expanded : (last : ℕ) (s c c' w w' : List ℕ) (top at : ℕ) → Result ℕ Reason → Type 0
 Expanded last s c c' w w' top at r =
     (st : List ℕ) → Goes last s st (Marks last s w) (λ x. KeptAt last s x at (cell c at)) c c' w w' top r
 
@@ -180,7 +177,7 @@ StartsIn st c = (k : ℕ) → 2 * k + 1 < length st → (get_or st (2 * k + 1) 0
 abbrev pub HasStarts : List ℕ → List ℕ → Type 0
 HasStarts st c = (o d : ℕ) → Begins st o d → depth_in c o ≡ some d
 
-abbrev pub Begun : (st c c' w w' : List ℕ) → Went → Type 0
+abbrev pub Begun : (st c c' w w' : List ℕ) → Result ℕ Reason → Type 0
 Begun st c c' w w' r = (last : ℕ) (s : List ℕ) → Goes last s st (Listed last s st) (HasStarts st) c c' w w' 0 r
 
 -- all that has a depth waits, and waits once
@@ -208,9 +205,9 @@ pub record InHand (last : ℕ) (s c₀ c w : List ℕ) (top at k : ℕ) : Type 0
   pub took : Took list w top at
 
 -- the code was followed from the place in hand
-abbrev pub Followed : (last : ℕ) (s c c' w' : List ℕ) (k : ℕ) → Ran → Type 0
-Followed last s c c' w' k (R.On t n) = (k < n) × Draining last s c c' w' t n
-Followed last s c c' w' k (R.Stuck why) = (st : List ℕ) → Sound last s st c → Because last s st why
+abbrev pub Followed : (last : ℕ) (s c c' w' : List ℕ) (k : ℕ) → Result Ran Reason → Type 0
+Followed last s c c' w' k (Ok ran) = (k < ran.taken) × Draining last s c c' w' ran.top ran.taken
+Followed last s c c' w' k (Err why) = (st : List ℕ) → Sound last s st c → Because last s st why
 
 -- the list is empty, after k places were visited: the instructions are all respected
 pub record Emptied (last : ℕ) (s c c' : List ℕ) (k : ℕ) : Type 0 where
@@ -219,7 +216,7 @@ pub record Emptied (last : ℕ) (s c c' : List ℕ) (k : ℕ) : Type 0 where
   pub kept : (o d : ℕ) → depth_in c' o ≡ some d → KeptAt last s c' o d
   pub count : k ≡ held c'
 
-abbrev pub Drained : (last : ℕ) (s c c' : List ℕ) → Went → Type 0
+abbrev pub Drained : (last : ℕ) (s c c' : List ℕ) → Result ℕ Reason → Type 0
 Drained last s c c' r = Says (Emptied last s c c') (λ why. (st : List ℕ) → Sound last s st c → Because last s st why) r
 
 -- the starts and all that follows from them
@@ -228,7 +225,7 @@ pub record Reached (last : ℕ) (s st c : List ℕ) (k : ℕ) : Type 0 where
   pub assigns : Assigns last s st (depth_in c)
   pub count : k ≡ held c
 
-abbrev pub Came : (last : ℕ) (s st c : List ℕ) → Went → Type 0
+abbrev pub Came : (last : ℕ) (s st c : List ℕ) → Result ℕ Reason → Type 0
 Came last s st c r = Says (Reached last s st c) (Because last s st) r
 
 -- walks
@@ -239,10 +236,10 @@ pub record Sized (last : ℕ) (s : List ℕ) (at r : ℕ) : Type 0 where
   pub none : r ≡ 0 → (f : Flow) → Stands last s at f → ⊥
 
 -- what a walk meets where no instruction stands
-abbrev pub stop_of : Step → Walk
-stop_of (Instr k o z) = Whole
-stop_of End = Whole
-stop_of (S.Refused q) = Fault q
+abbrev pub stop_of : Step → Result (Unit {0}) Refusal
+stop_of (Instr k o z) = Ok tt
+stop_of End = Ok tt
+stop_of (S.Refused q) = Err q
 
 -- the code has no fault
 abbrev pub NoFault : ℕ → List ℕ → Type 0
@@ -254,9 +251,9 @@ pub record Marked (last : ℕ) (s w : List ℕ) : Type 0 where
   pub only : (o : ℕ) → (get_or w o 0 ≡ 0) ⊎ ((get_or w o 0 ≡ place_mark) × Place last s o)
 
 -- the walk for faults, which marks the places
-abbrev pub Walked : (last : ℕ) (s w : List ℕ) → Walk → Type 0
-Walked last s w Whole = NoFault last s × Marked last s w
-Walked last s w (Fault q) = Faulty last s q
+abbrev pub Walked : (last : ℕ) (s w : List ℕ) → Result (Unit {0}) Refusal → Type 0
+Walked last s w (Ok u) = NoFault last s × Marked last s w
+Walked last s w (Err q) = Faulty last s q
 
 -- r says whether P holds
 pub record Tells (r : Bool) (P : Type 0) : Type 0 where
@@ -274,8 +271,13 @@ pub record Fitted (s c w : List ℕ) : Type 0 where
   pub work : length w ≡ suc (length s)
 
 -- the whole work on them: what is refused before 23, or what the depth cells became
-abbrev pub Examined : (last : ℕ) (s st c c' : List ℕ) → Explained → Type 0
-Examined last s st c c' (Accepted a) = NoFault last s × Listed last s st × Solution last s st c' a
-Examined last s st c c' (Unsolved why) =
+abbrev pub Examined : (last : ℕ) (s st c c' : List ℕ) → Result Assignment Unmet → Type 0
+Examined last s st c c' (Ok a) = NoFault last s × Listed last s st × Solution last s st c' a
+Examined last s st c c' (Err (Unsolved why)) =
     NoFault last s × Listed last s st × Because last s st why × (c' ≡ replicate (suc (length s)) no_depth)
-Examined last s st c c' (Refused q) = (Faulty last s q ⊎ (NoFault last s × Astray last s st q)) × (c' ≡ c)
+Examined last s st c c' (Err (Refused q)) = (Faulty last s q ⊎ (NoFault last s × Astray last s st q)) × (c' ≡ c)
+
+-- the refusal without the reason
+abbrev pub refusal_of : Unmet → Refusal
+refusal_of (Refused q) = q
+refusal_of (Unsolved why) = NoDepths

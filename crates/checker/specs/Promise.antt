@@ -1,7 +1,7 @@
 -- What a check promises: R47 to R53, and R73 of the work slice. `last` is the last opcode of the table, s the code,
 -- st the starts, d the depth slice before and d' after, w the work slice before and w' after, r the answer.
 -- Assumes nothing.
-use Rattle.std.specs.Prelude.{◌≡◌, Bool, false, ◌&&◌, List, ◌++◌, ◌⊎◌, ℕ, suc, ◌+◌, ◌*◌, ◌%◌, ◌≤◌, ◌<◌, length, get_or, take, drop, replicate}
+use Rattle.std.specs.Prelude.{◌≡◌, Bool, false, ◌&&◌, List, ◌++◌, ◌⊎◌, ℕ, suc, ◌+◌, ◌*◌, ◌%◌, ◌≤◌, ◌<◌, length, get_or, take, drop, replicate, Ok, Err, Result}
 use Rattle.std.proofs.Math.Option.{Option, some, none}
 use Rattle.op.specs.Depths.{deepest}
 use Rattle.op.specs.Opcodes.{last_opcode}
@@ -11,8 +11,6 @@ use Rattle.code.specs.Depths.{Place, Faulty, Smallest, Impossible, Derived, Coun
 use Rattle.builder.specs.declared.Builder.{Builder}
 use Rattle.code.specs.Tables.{code_limit, code_within, no_depth, start_cells, used, within}
 use Rattle.checker.specs.declared.Assignment.{Assignment}
-use Rattle.checker.specs.declared.Checked.{Checked}
-use Rattle.checker.specs.declared.Checked.TheVariants.{Accepted, Refused}
 use Rattle.checker.specs.Cells.{cell, depth_in}
 
 -- 10, checked code too large
@@ -60,22 +58,22 @@ abbrev pub Zeroed : List ℕ → List ℕ → List ℕ → Type 0
 Zeroed s w w' = Became s w w' (replicate (suc (length s)) 0)
 
 -- refused with q before any work: "10, 21 and 19, which leave it as it was" (R73)
-abbrev pub Untouched : List ℕ → List ℕ → List ℕ → List ℕ → Checked → Refusal → Type 0
-Untouched d d' w w' r q = (r ≡ Refused q) × (d' ≡ d) × (w' ≡ w)
+abbrev pub Untouched : List ℕ → List ℕ → List ℕ → List ℕ → Result Assignment Refusal → Refusal → Type 0
+Untouched d d' w w' r q = (r ≡ Err q) × (d' ≡ d) × (w' ≡ w)
 
 -- refused with q, and "leave the slice as it was" (R52)
-abbrev pub Refuses : List ℕ → List ℕ → List ℕ → List ℕ → List ℕ → Checked → Refusal → Type 0
-Refuses s d d' w w' r q = (r ≡ Refused q) × (d' ≡ d) × Zeroed s w w'
+abbrev pub Refuses : List ℕ → List ℕ → List ℕ → List ℕ → List ℕ → Result Assignment Refusal → Refusal → Type 0
+Refuses s d d' w w' r q = (r ≡ Err q) × (d' ≡ d) × Zeroed s w w'
 
 -- "On 23 those cells all hold 65,536" (R52)
-abbrev pub Blanks : List ℕ → List ℕ → List ℕ → List ℕ → List ℕ → Checked → Refusal → Type 0
-Blanks s d d' w w' r q = (r ≡ Refused q) × Became s d d' (replicate (suc (length s)) no_depth) × Zeroed s w w'
+abbrev pub Blanks : List ℕ → List ℕ → List ℕ → List ℕ → List ℕ → Result Assignment Refusal → Refusal → Type 0
+Blanks s d d' w w' r q = (r ≡ Err q) × Became s d d' (replicate (suc (length s)) no_depth) × Zeroed s w w'
 
 -- accepted, with a solution
-pub record Accepts (last : ℕ) (s st d d' w w' : List ℕ) (r : Checked) : Type 0 where
+pub record Accepts (last : ℕ) (s st d d' w w' : List ℕ) (r : Result Assignment Refusal) : Type 0 where
   pub assignment : Assignment
   pub cells : List ℕ
-  pub answer : r ≡ Accepted assignment
+  pub answer : r ≡ Ok assignment
   pub solution : Solution last s st cells assignment
   pub became : Became s d d' cells
   pub zeroed : Zeroed s w w'
@@ -86,7 +84,7 @@ pub data Unless (P A : Refusal → Type 0) (B : Type 0) : Type 0 where
   passes : ((q : Refusal) → P q → ⊥) → B → Unless P A B
 
 -- "10, 21, 1 or 22 at the lowest offset, 20, 23", else accepted (R47)
-unfoldable pub Promise : ℕ → List ℕ → List ℕ → List ℕ → List ℕ → List ℕ → List ℕ → Checked → Type 0
+unfoldable pub Promise : ℕ → List ℕ → List ℕ → List ℕ → List ℕ → List ℕ → List ℕ → Result Assignment Refusal → Type 0
 Promise last s st d d' w w' r =
     Unless (TooLong s) (Untouched d d' w w' r)
     (Unless (NoRoom s d w) (Untouched d d' w w' r)
@@ -104,7 +102,7 @@ abbrev pub Miscounted : Builder → List ℕ → List ℕ → Refusal → Type 0
 Miscounted b s st q = (q ≡ Unsound) × (built_sound b (length s) (length st) ≡ false)
 
 -- the check of a builder's code and starts: 19, then the promise above of the used parts (R53)
-unfoldable pub BuiltPromise : Builder → List ℕ → List ℕ → List ℕ → List ℕ → List ℕ → List ℕ → Checked → Type 0
+unfoldable pub BuiltPromise : Builder → List ℕ → List ℕ → List ℕ → List ℕ → List ℕ → List ℕ → Result Assignment Refusal → Type 0
 BuiltPromise b s st d d' w w' r =
     Unless (Miscounted b s st) (Untouched d d' w w' r)
     (Promise last_opcode (take b.core.code s) (used start_cells b.starts st) d d' w w' r)

@@ -1,18 +1,18 @@
 -- Why no assignment of depths exists: what `explain` names beside 23. Each reason is one that R49 excludes, of depths
 -- that are derived from the starts. `last` is the last opcode of the table, s the code, st the starts.
 -- Assumes nothing.
-use Rattle.std.specs.Prelude.{◌≡◌, List, ℕ}
+use Rattle.std.specs.Prelude.{◌≡◌, List, ℕ, Ok, Err, Result}
+use Rattle.op.specs.declared.Refusal.{Refusal}
 use Rattle.op.specs.declared.Refusal.TheVariants.{NoDepths}
 use Rattle.code.specs.declared.Change.{Change}
 use Rattle.code.specs.declared.Flow.{Flow}
 use Rattle.code.specs.declared.Goal.TheVariants.{Nowhere, To}
 use Rattle.code.specs.Depths.{Stands, Place, Leads, Derived}
-use Rattle.checker.specs.declared.Checked.{Checked}
-use Rattle.checker.specs.declared.Checked.TheVariants as C
-use Rattle.checker.specs.declared.Explained.{Explained}
-use Rattle.checker.specs.declared.Explained.TheVariants as E
+use Rattle.checker.specs.declared.Assignment.{Assignment}
 use Rattle.checker.specs.declared.Reason.{Reason}
 use Rattle.checker.specs.declared.Reason.TheVariants.{TwoDepths, NetOutOfRange, TakenOutOfRange, NoPlace}
+use Rattle.checker.specs.declared.Unmet.{Unmet}
+use Rattle.checker.specs.declared.Unmet.TheVariants.{Refused, Unsolved}
 use Rattle.checker.specs.Promise.{Promise}
 
 -- the place o is brought two depths
@@ -52,18 +52,18 @@ Because last s st (TakenOutOfRange at depth) = Fails last s st at depth (LeavesT
 Because last s st (NoPlace at depth) = Fails last s st at depth (Misses last s)
 
 -- the answer without the reason
-abbrev pub answer_of : Explained → Checked
-answer_of (E.Accepted a) = C.Accepted a
-answer_of (E.Refused q) = C.Refused q
-answer_of (E.Unsolved why) = C.Refused NoDepths
+abbrev pub answer_of : Result Assignment Unmet → Result Assignment Refusal
+answer_of (Ok a) = Ok a
+answer_of (Err (Refused q)) = Err q
+answer_of (Err (Unsolved why)) = Err NoDepths
 
 -- 23 comes with a reason that holds
-abbrev pub Reasoned : ℕ → List ℕ → List ℕ → Explained → Type 0
-Reasoned last s st (E.Accepted a) = Unit {0}
-Reasoned last s st (E.Refused q) = q ≡ NoDepths → ⊥
-Reasoned last s st (E.Unsolved why) = Because last s st why
+abbrev pub Reasoned : ℕ → List ℕ → List ℕ → Result Assignment Unmet → Type 0
+Reasoned last s st (Ok a) = Unit {0}
+Reasoned last s st (Err (Refused q)) = q ≡ NoDepths → ⊥
+Reasoned last s st (Err (Unsolved why)) = Because last s st why
 
 -- "`explain` answers and leaves what `check` does, and with 23 it names a reason" (R74)
-pub record Explains (last : ℕ) (s st d d' w w' : List ℕ) (r : Explained) : Type 0 where
+pub record Explains (last : ℕ) (s st d d' w w' : List ℕ) (r : Result Assignment Unmet) : Type 0 where
   pub promise : Promise last s st d d' w w' (answer_of r)
   pub reasoned : Reasoned last s st r

@@ -1,7 +1,7 @@
 // The cells alone.
 ghost use Rattle.std.specs.Prelude.{◌≡◌, ◌-◌, ◌<◌, length, take};
 ghost use Rattle.checker.specs.Cells.{held};
-ghost use Rattle.checker.specs.Inner.{greater, greatest_in};
+ghost use Rattle.checker.specs.Inner.{greatest_in};
 
 use code::{NO_DEPTH, WORD_MAX};
 
@@ -11,33 +11,15 @@ pub fn before_last(cells: &[u32], all: usize) -> usize
     ensures { result ≡ held (take (length cells.now - 1) cells.now) }
 {
     let last = cells[cells.len() - 1];
-    if last <= WORD_MAX {
-        return all - 1;
-    }
-    all
+    if last <= WORD_MAX { all - 1 } else { all }
 }
 
-// The greater of a depth and the one that a cell holds; 65,536, where it holds none, counts as 0. A remainder and no test,
-// so that the compiler looks at several cells at once.
-fn greater(most: u32, holds: u32) -> u32
-    ensures { result ≡ greater most holds }
-{
-    let depth = holds % NO_DEPTH;
-    if most < depth {
-        return depth;
-    }
-    most
-}
-
-// The greatest depth that the cells hold, 0 where they hold none.
+// The greatest depth that the cells hold, 0 where they hold none. 65,536, where a cell holds none, counts as 0: by a
+// remainder and no test, so that the compiler looks at several cells at once.
 pub fn greatest(cells: &[u32]) -> u32
     ensures { result ≡ greatest_in cells.now }
 {
-    let mut most = 0;
-    let mut o = 0;
-    while o < cells.len() {
-        most = greater(most, cells[o]);
-        o += 1;
-    }
-    most
+    cells
+        .iter()
+        .fold(0, |most, holds| most.max(*holds % NO_DEPTH))
 }

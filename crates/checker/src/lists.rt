@@ -1,5 +1,6 @@
 // The list of places still to visit. It stands in the work cells, beside the marks. A place is put on it, or is in
 // hand, when it gets its depth; so each is visited once.
+// The two lent slices are passed side by side: in a struct of two loans each clause would be longer.
 ghost use Rattle.std.specs.Prelude.{◌≡◌, suc, ◌<◌, ◌≤◌, length, replicate};
 ghost use Rattle.op.specs.Opcodes.{last_opcode};
 ghost use Rattle.code.specs.Tables.{word_max, no_depth};
@@ -8,9 +9,19 @@ ghost use Rattle.checker.specs.Promise.{Listed};
 ghost use Rattle.checker.specs.Inner.{Marks, Ready, Passes, Expanded, InHand, Followed};
 ghost use Rattle.checker.specs.Inner.{Took, StartsIn, Begun, Loaded, Drained, Came};
 
+use crate::visits::{Passed, Visit};
 use crate::walks::PLACE_MARK;
-use crate::{Passed, Ran, Went, visits, walks};
-use code::{Flowing, flows};
+use crate::{Reason, visits, walks};
+use code::{Flowing, START_CELLS, flows};
+
+// How far work on places one behind the other came.
+#[derive(Clone, Copy)]
+struct Ran {
+    // how many places wait
+    top: usize,
+    // how many were visited
+    taken: usize,
+}
 
 // Takes the entry `last` off the list; its cell keeps the mark.
 fn take(work: &mut [u32], last: usize) -> usize
@@ -24,18 +35,23 @@ fn take(work: &mut [u32], last: usize) -> usize
 }
 
 // Visits what stands at an offset that has a depth.
-fn expand(code: &[u8], cells: &mut [u32], work: &mut [u32], top: usize, at: usize) -> Passed
+fn expand(
+    code: &[u8],
+    cells: &mut [u32],
+    work: &mut [u32],
+    top: usize,
+    at: usize,
+) -> Result<Passed, Reason>
     requires { Ready cells.old work.old top × (length cells.old ≡ suc (length code.now))
         × (cell cells.old at ≤ word_max) }
     ensures { Passes work.new (λ x y. Expanded last_opcode code.now cells.old
         cells.new work.old x top at y) result }
 {
-    let d = cells[at];
-    let got = flows::flow_at(code, at);
-    match got {
-        Flowing::Op(f) => visits::move_on(cells, work, top, at, d, f),
-        Flowing::End => Passed::Rests(top),
-        Flowing::Refused(_) => Passed::Rests(top),
+    let depth = cells[at];
+    match flows::flow_at(code, at) {
+        Flowing::Op(flow) => Visit { at, depth, flow }.move_on(cells, work, top),
+        Flowing::End => Ok(Passed { top, next: None }),
+        Flowing::Refused(_) => Ok(Passed { top, next: None }),
     }
 }
 
@@ -45,98 +61,68 @@ fn follow(
     code: &[u8],
     cells: &mut [u32],
     work: &mut [u32],
-    top: usize,
-    at: usize,
-    taken: usize,
-) -> Ran
+    mut top: usize,
+    mut at: usize,
+    mut taken: usize,
+) -> Result<Ran, Reason>
     requires { InHand last_opcode code.now cells.old cells.old work.old top at taken
         × (length cells.old ≡ suc (length code.now)) }
     ensures { Followed last_opcode code.now cells.old cells.new
         work.new taken result }
 {
-    let mut wait = top;
-    let mut place = at;
-    let mut count = taken;
-    loop {
-        let passed = expand(code, cells, work, wait, place);
-        count += 1;
-        match passed {
-            Passed::Rests(t) => {
-                return Ran::On {
-                    top: t,
-                    taken: count,
-                };
-            }
-            Passed::Stuck(why) => {
-                return Ran::Stuck(why);
-            }
-            Passed::Holds {
-                top: t,
-                place: next,
-            } => {
-                wait = t;
-                place = next;
-            }
-        }
+    'places: loop {
+        let passed = expand(code, cells, work, top, at)?;
+        taken += 1;
+        top = passed.top;
+        let Some(next) = passed.next else {
+            return Ok(Ran { top, taken });
+        };
+        at = next;
     }
 }
 
-// The places of the starts get their depths and wait.
-fn begin(starts: &[u32], cells: &mut [u32], work: &mut [u32]) -> Went
+// The places of the starts get their depths and wait; answers how many wait.
+fn begin(starts: &[u32], cells: &mut [u32], work: &mut [u32]) -> Result<usize, Reason>
     requires { Ready cells.old work.old 0 × StartsIn starts.now cells.old }
     ensures { Begun starts.now cells.old cells.new
         work.old work.new result }
 {
-    let half = starts.len() / 2;
-    let mut k = 0;
     let mut top = 0;
-    while k < half {
-        let o = walks::start_offset(starts, k);
-        let d = walks::start_depth(starts, k);
-        let asked = visits::ask(cells, work, top, o, d);
-        let Went::On(t) = asked else {
-            return asked;
-        };
-        top = t;
-        k += 1;
+    for k in 0..starts.len() / START_CELLS {
+        let start = walks::start_at(starts, k);
+        top = visits::ask(cells, work, top, start.offset, start.depth)?;
     }
-    Went::On(top)
+    Ok(top)
 }
 
 // Visits what waits, and what is come to from there, until nothing waits, and answers how many places were visited.
-fn drain(code: &[u8], cells: &mut [u32], work: &mut [u32], first: usize) -> Went
-    requires { Loaded last_opcode code.now cells.old work.old first
+fn drain(code: &[u8], cells: &mut [u32], work: &mut [u32], mut top: usize) -> Result<usize, Reason>
+    requires { Loaded last_opcode code.now cells.old work.old top
         × (length cells.old ≡ suc (length code.now)) }
     ensures { Drained last_opcode code.now cells.old cells.new result }
 {
-    let mut top = first;
     let mut taken = 0;
     while 0 < top {
         let last = top - 1;
         let at = take(work, last);
-        let ran = follow(code, cells, work, last, at, taken);
-        match ran {
-            Ran::Stuck(why) => {
-                return Went::Stuck(why);
-            }
-            Ran::On { top: t, taken: k } => {
-                top = t;
-                taken = k;
-            }
-        }
+        let ran = follow(code, cells, work, last, at, taken)?;
+        top = ran.top;
+        taken = ran.taken;
     }
-    Went::On(taken)
+    Ok(taken)
 }
 
-// All that follows from the starts, in cells without depths.
-pub fn reach(code: &[u8], starts: &[u32], cells: &mut [u32], work: &mut [u32]) -> Went
+// All that follows from the starts, in cells without depths; answers how many places have a depth.
+pub fn reach(
+    code: &[u8],
+    starts: &[u32],
+    cells: &mut [u32],
+    work: &mut [u32],
+) -> Result<usize, Reason>
     requires { (cells.old ≡ replicate (suc (length code.now)) no_depth) × Ready cells.old work.old 0
         × Marks last_opcode code.now work.old × Listed last_opcode code.now starts.now }
     ensures { Came last_opcode code.now starts.now cells.new result }
 {
-    let begun = begin(starts, cells, work);
-    match begun {
-        Went::Stuck(why) => Went::Stuck(why),
-        Went::On(top) => drain(code, cells, work, top),
-    }
+    let top = begin(starts, cells, work)?;
+    drain(code, cells, work, top)
 }

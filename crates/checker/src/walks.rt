@@ -4,30 +4,37 @@ ghost use Rattle.op.specs.Opcodes.{last_opcode};
 ghost use Rattle.code.specs.Decode.{decode};
 ghost use Rattle.checker.specs.Inner.{place_mark, stop_of, Walked, StartsTold};
 
-use crate::Walk;
-use code::{Step, WORD_MAX, decoder, sizes};
+use code::{START_CELLS, Step, WORD_MAX, decoder, sizes};
+use op::Refusal;
 
 // What a work cell holds where a place is: more than any offset, so that it stands beside one.
 pub const PLACE_MARK: u32 = 2097152;
 
+// A start: an offset, and the depth there.
+#[derive(Clone, Copy)]
+pub struct Start {
+    pub offset: usize,
+    pub depth: u32,
+}
+
 // What a walk that can go no further has met.
-fn stop(code: &[u8], at: usize) -> Walk
+fn stop(code: &[u8], at: usize) -> Result<(), Refusal>
     ensures { result ≡ stop_of (decode last_opcode at (drop at code.now)) }
 {
-    let step = decoder::step_at(code, at);
-    match step {
+    match decoder::step_at(code, at) {
         Step::Instr {
             opcode: _,
             operand: _,
             size: _,
-        } => Walk::Whole,
-        Step::End => Walk::Whole,
-        Step::Refused(refusal) => Walk::Fault(refusal),
+        } => Ok(()),
+        Step::End => Ok(()),
+        Step::Refused(refusal) => Err(refusal),
     }
 }
 
-// Marks each place in cells of zeros, up to the first fault, if there is one.
-pub fn mark_places(code: &[u8], work: &mut [u32]) -> Walk
+// Marks each place in cells of zeros, up to the first fault, if there is one. The steps are of many sizes, so no `for`
+// counts them.
+pub fn mark_places(code: &[u8], work: &mut [u32]) -> Result<(), Refusal>
     requires { (length work.old ≡ suc (length code.now)) × ((o : ℕ) → get_or work.old o 0 ≡ 0) }
     ensures { Walked last_opcode code.now work.new result }
 {
@@ -46,53 +53,33 @@ pub fn mark_places(code: &[u8], work: &mut [u32]) -> Walk
 pub fn marked(work: &[u32], o: usize) -> bool
     ensures { result ≡ leb place_mark (get_or work.now o 0) }
 {
-    if work.len() <= o {
-        return false;
+    work.get(o).is_some_and(|holds| PLACE_MARK <= *holds)
+}
+
+// Start k.
+pub fn start_at(starts: &[u32], k: usize) -> Start
+    requires { 2 * k + 1 < length starts.now }
+    ensures offset { result.offset ≡ get_or starts.now (2 * k) 0 }
+    ensures depth { result.depth ≡ get_or starts.now (2 * k + 1) 0 }
+{
+    Start {
+        offset: starts[START_CELLS * k] as usize,
+        depth: starts[START_CELLS * k + 1],
     }
-    PLACE_MARK <= work[o]
-}
-
-// A u32 as an index.
-fn index(x: u32) -> usize
-    ensures { result ≡ x }
-{
-    x as usize
-}
-
-// The offset of start k.
-pub fn start_offset(starts: &[u32], k: usize) -> usize
-    requires { 2 * k + 1 < length starts.now }
-    ensures { result ≡ get_or starts.now (2 * k) 0 }
-{
-    index(starts[2 * k])
-}
-
-// Its depth.
-pub fn start_depth(starts: &[u32], k: usize) -> u32
-    requires { 2 * k + 1 < length starts.now }
-    ensures { result ≡ get_or starts.now (2 * k + 1) 0 }
-{
-    starts[2 * k + 1]
 }
 
 // Whether the start list is one that can be, by the marks.
 pub fn starts_fine(work: &[u32], starts: &[u32]) -> bool
     ensures { StartsTold work.now starts.now result }
 {
-    let n = starts.len();
-    if n % 2 == 1 {
+    if starts.len() % START_CELLS != 0 {
         return false;
     }
-    let half = n / 2;
-    let mut k = 0;
-    while k < half {
-        if WORD_MAX < start_depth(starts, k) {
+    for k in 0..starts.len() / START_CELLS {
+        let start = start_at(starts, k);
+        if WORD_MAX < start.depth || !marked(work, start.offset) {
             return false;
         }
-        if !marked(work, start_offset(starts, k)) {
-            return false;
-        }
-        k += 1;
     }
     true
 }

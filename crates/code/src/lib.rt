@@ -8,7 +8,6 @@ use op::{Effect, Operand, Refusal};
 pub mod decoder;
 pub mod entries;
 pub mod flows;
-pub mod lent;
 pub mod lookups;
 mod numbers;
 pub mod reading;

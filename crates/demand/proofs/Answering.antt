@@ -1,5 +1,6 @@
 -- What a check of the bytes and the starts answers and leaves.
 -- Assumes nothing.
+use Rattle.std.specs.Prelude.{Ok, Result}
 use mathlib.Core.Path.{◌≡◌, refl, ap, ◌∙◌}
 use mathlib.Core.Bool.{true}
 use mathlib.Core.Logic.{◌↔◌}
@@ -12,6 +13,7 @@ use lib.ListN.{length, take, drop, get_or, get_or-append}
 use borrow.Author.Tests.{le-leb}
 use Rattle.base.proofs.Bools.{clash}
 use Rattle.op.specs.Opcodes.{last_opcode}
+use Rattle.op.specs.declared.Refusal.{Refusal}
 use Rattle.code.specs.Depths.{Smallest, Derived}
 use Rattle.code.proofs.Assigning.{smallest_agree}
 use Rattle.code.proofs.Counting.{counts_one}
@@ -20,8 +22,6 @@ use Rattle.builder.specs.declared.Builder.{Builder}
 use Rattle.checker.specs.Cells.{cell, depth_in}
 use Rattle.checker.specs.Promise.{Promise, stops, passes, built_sound, BuiltPromise}
 use Rattle.checker.specs.declared.Assignment.{Assignment}
-use Rattle.checker.specs.declared.Checked.{Checked}
-use Rattle.checker.specs.declared.Checked.TheVariants as C
 use Rattle.checker.proofs.Deepest.{greatest_one, assignment_one}
 use Rattle.checker.proofs.Holding.{depth_in_lem, in_depth}
 use Rattle.checker.proofs.Promising.{accepted_when}
@@ -48,9 +48,9 @@ cell_of_lem c o none e l = elim (dec_le (cell c o) 65535) [
 
 module _ (b : Book isa) (g : Good isa laws b)
     (closed : (r : Row isa) → Mem r b.rows → Closed isa laws r.offset r.what) where
-  checked : b.len ≤ code_limit → (d d' w w' : List ℕ) (r : Checked) → b.len < length d → b.len < length w
+  checked : b.len ≤ code_limit → (d d' w w' : List ℕ) (r : Result Assignment Refusal) → b.len < length d → b.len < length w
       → Promise last_opcode (bytes_of isa b.rows) (cells b.starts) d d' w w' r
-      → (r ≡ C.Accepted (assigning (length b.rows) (deepest_seen b.rows b.cur)))
+      → (r ≡ Ok (assigning (length b.rows) (deepest_seen b.rows b.cur)))
       × ((o : ℕ) → o ≤ b.len → cell d' o ≡ cell_of (depths b g closed o))
   checked short d d' w w' r room space P =
       let z : length (bytes_of isa b.rows) ≡ b.len = code_length b.rows b.len g.chain closed in
@@ -61,7 +61,7 @@ module _ (b : Book isa) (g : Good isa laws b)
       let same = smallest_agree s.smallest (least b g closed) in
       let count = counts_one same s.count (counted b g closed) in
       let greatest = greatest_one same s.greatest (greatest_seen b.rows b.len b.cur g.chain) in (
-        a.answer ∙ ap C.Accepted (assignment_one count greatest),
+        a.answer ∙ ap Ok (assignment_one count greatest),
         λ o l. ap (λ (x : List ℕ). get_or x o 65536) a.became
             ∙ get_or-append c (drop (suc (length (bytes_of isa b.rows))) d) 65536 o (omega (arith, s.size, z))
             ∙ cell_of_lem c o (depths b g closed o) (same o) (s.others o),
@@ -76,9 +76,9 @@ module _ (b : Book isa) (g : Good isa laws b)
       pub derived_at : (o d : ℕ) → (depth_at isa b.rows n b.cur o ≡ some d) ↔ Derived last_opcode s st o d
       derived_at o d = rw (es, et, en) (derives b g closed o d)
 
-      pub checked_at : b.len ≤ code_limit → (d d' w w' : List ℕ) (r : Checked) → n < length d → n < length w
+      pub checked_at : b.len ≤ code_limit → (d d' w w' : List ℕ) (r : Result Assignment Refusal) → n < length d → n < length w
           → Promise last_opcode s st d d' w w' r
-          → (r ≡ C.Accepted (assigning (length b.rows) (deepest_seen b.rows b.cur)))
+          → (r ≡ Ok (assigning (length b.rows) (deepest_seen b.rows b.cur)))
           × ((o : ℕ) → o ≤ n → cell d' o ≡ cell_of (depth_at isa b.rows n b.cur o))
       checked_at short = rw (es, et, en) (checked short)
 
@@ -95,7 +95,7 @@ built_sound_lem b s st c l h =
       le-leb b.starts (length st / start_cells) (omega arith),
     ) refl
 
-pub built_promise : (b : Builder) (s st d d' w w' : List ℕ) (r : Checked) → b.core.code ≤ length s
+pub built_promise : (b : Builder) (s st d d' w w' : List ℕ) (r : Result Assignment Refusal) → b.core.code ≤ length s
     → b.core.code ≤ code_limit
     → b.starts * start_cells ≤ length st → BuiltPromise b s st d d' w w' r
     → Promise last_opcode (take b.core.code s) (take (b.starts * start_cells) st) d d' w w' r

@@ -1,5 +1,6 @@
 -- Demand 3, proved: specs/Demand.antt has the statement.
 -- Assumes nothing.
+use Rattle.std.specs.Prelude.{Result}
 use mathlib.Core.Path.{◌≡◌, sym, ap, ◌∙◌}
 use mathlib.Core.List.{List, Memᴰ as Mem}
 use Prim.Native.Nat.{ℕ, ◌≤◌, ◌<◌}
@@ -8,14 +9,15 @@ use lib.ListN.{length}
 use lib.Seq.{length-take-le}
 use Rattle.base.proofs.Bools.{clash}
 use Rattle.op.specs.Opcodes.{last_opcode}
+use Rattle.op.specs.declared.Refusal.{Refusal}
 use Rattle.builder.specs.State.{Kept, kept}
 use Rattle.builder.specs.Regions.{new_of}
 use Rattle.code.specs.Tables.{code_limit}
 use Rattle.builder.specs.declared.Answer.TheVariants.{Accepted}
 use Rattle.builder.specs.declared.Depth.{Depth}
 use Rattle.builder.specs.declared.Depth.TheVariants.{Dead, Live}
+use Rattle.checker.specs.declared.Assignment.{Assignment}
 use Rattle.checker.specs.Promise.{Promise}
-use Rattle.checker.specs.declared.Checked.{Checked}
 use Rattle.demand.specs.Machine.{isa}
 use Rattle.demand.specs.History.{waits, leap, Row, History}
 use Rattle.demand.specs.World.{World}
@@ -54,7 +56,7 @@ finish w w' h i t B =
     let en : length (finished w) ≡ h.end = tied_end (view w) h t in
     let short : h.end ≤ code_limit =
     omega (arith, B.limit, length-take-le w.state.core.code w.code i.code) in
-    let accepts : (d d' v v' : List ℕ) (r : Checked) → length (finished w') < length d
+    let accepts : (d d' v v' : List ℕ) (r : Result Assignment Refusal) → length (finished w') < length d
     → length (finished w') < length v
     → Promise last_opcode (finished w') (region_starts w') d d' v v' r → AcceptsAs w' h r d' =
     rw (B.state, B.code, B.starts)

@@ -3,11 +3,12 @@
 -- each jump with its final displacement; and the depths derived from those bytes and the region starts alone are the
 -- builder's: one at each instruction and at a live end, none at a dead end."
 -- Assumes nothing.
-use Rattle.std.specs.Prelude.{◌≡◌, ◌↔◌, ℕ, ◌*◌, ◌≤◌, ◌<◌, max, length, take}
+use Rattle.std.specs.Prelude.{◌≡◌, ◌↔◌, ℕ, ◌*◌, ◌≤◌, ◌<◌, max, length, take, Ok, Result}
 use mathlib.Core.List.{List, [], ◌∷◌, Memᴰ}
 use Rattle.std.proofs.Math.Option.{Option, some, none}
 use contract.Lifetimes.{Lfts}
 use Rattle.op.specs.Opcodes.{last_opcode}
+use Rattle.op.specs.declared.Refusal.{Refusal}
 use Rattle.code.specs.Depths.{Smallest, Derived}
 use Rattle.code.specs.Reading.{instructions_in}
 use Rattle.code.specs.Tables.{no_depth, start_cells}
@@ -17,8 +18,6 @@ use Rattle.builder.specs.declared.Depth.TheVariants.{Dead, Live}
 use Rattle.builder.proofs.Builder.new.Reads.{Learnt as new_says}
 use Rattle.checker.specs.Cells.{cell}
 use Rattle.checker.specs.declared.Assignment.{Assignment}
-use Rattle.checker.specs.declared.Checked.{Checked}
-use Rattle.checker.specs.declared.Checked.TheVariants as C
 use Rattle.checker.proofs.check.Reads.{Learnt as check_says}
 use Rattle.checker.proofs.check_built.Reads.{Learnt as check_built_says}
 use Rattle.demand.specs.Machine.{isa}
@@ -77,9 +76,9 @@ abbrev pub seen_in : World → History → Assignment
 seen_in w h = record { count = length h.rows; greatest = deepest_seen h.rows w.state.core.depth }
 
 -- a check accepts, with these depths in its cells, and answers what the history has
-abbrev pub AcceptsAs : World → History → Checked → List ℕ → Type 0
+abbrev pub AcceptsAs : World → History → Result Assignment Refusal → List ℕ → Type 0
 AcceptsAs w h r checked =
-    (r ≡ C.Accepted (seen_in w h)) × ((o : ℕ) → o ≤ length (finished w) → cell checked o ≡ cell_of (depths w h o))
+    (r ≡ Ok (seen_in w h)) × ((o : ℕ) → o ≤ length (finished w) → cell checked o ≡ cell_of (depths w h o))
 
 -- of the world w that the calls left, the world w' behind `build`, and the history h of the calls
 pub record Demand (w w' : World) (h : History) : Type 0 where
@@ -101,14 +100,14 @@ pub record Demand (w w' : World) (h : History) : Type 0 where
   pub derived : (o d : ℕ) → (depths w' h o ≡ some d) ↔ Derived last_opcode (finished w') (region_starts w') o d
   -- so `check` of those bytes and starts accepts where its two slices have room, by its contract
   pub checks : (κs : Lfts 4) (code : Holding (finished w')) (starts : Holding (region_starts w'))
-      (entry exit work left : Slice) (r : Checked)
+      (entry exit work left : Slice) (r : Result Assignment Refusal)
       → check_says κs (code.slice, (starts.slice, (entry, (work, tt)))) r
       (code.slice, (starts.slice, (exit, (left, tt))))
       → length (finished w') < length entry.now → length (finished w') < length work.now
       → AcceptsAs w' h r exit.now
   -- and so does `check_built` of the builder and its tables
   pub checks_built : (κs : Lfts 4) (code : Holding w'.code) (starts : Holding w'.starts)
-      (entry exit work left : Slice) (r : Checked)
+      (entry exit work left : Slice) (r : Result Assignment Refusal)
       → check_built_says κs (w'.state, (code.slice, (starts.slice, (entry, (work, tt))))) r
       (w'.state, (code.slice, (starts.slice, (exit, (left, tt)))))
       → length (finished w') < length entry.now → length (finished w') < length work.now

@@ -25,7 +25,6 @@ use Rattle.builder.specs.Back.{emit_jump_to_of, jump_to_core, to_plan_of}
 use Rattle.builder.specs.Patch.{mark_plan_of, patch_jump_of, patch_plan_of}
 use Rattle.builder.specs.Constants.{add_const_of}
 use Rattle.checker.specs.Cells.{held}
-use Rattle.checker.specs.Inner.{greatest_from}
 use Rattle.checker.proofs.Certificate.{certificate, must_accept, must_refuse}
 use Rattle.examples.specs.Table.{Examples, code_a, code_k, from_zero}
 
@@ -33,7 +32,7 @@ pub hold : Examples
 unfolding landing effect_by effect_of taken_of dead_maker table known row_of shape_of size_of signed operand_in decode step_in
     shape_up_to encode find_from table_of goal_by flow_of covers_of first_covering handler_of first put sound_of behind
     emitting_of enter_of plan_of emit_core emit_named mark_of mark_in fits markable near bits jump_plan_of emit_jump_of to_plan_of
-    jump_to_core emit_jump_to_of mark_plan_of patch_plan_of patch_jump_of add_const_of held greatest_from instructions_from read_up_to
+    jump_to_core emit_jump_to_of mark_plan_of patch_plan_of patch_jump_of add_const_of held instructions_from read_up_to
     certificate
 hold = record {
   a = λ d d' w w' r room space P. must_accept _ code_a from_zero (0 ∷ 1 ∷ 65536 ∷ 65536 ∷ 0 ∷ 65536 ∷ 1 ∷ 0 ∷ 1 ∷ 65536 ∷ []) 6 tt (omega arith) d d' w w' r room space P;

@@ -1,9 +1,10 @@
 -- The rules' examples A to L, a single table and statement (R61), each about what a call's promise says of it.
 -- Assumes nothing.
-use Rattle.std.specs.Prelude.{◌≡◌, List, [], ◌∷◌, ◌++◌, ℕ, ◌%◌, ◌<◌, negsuc, length, drop, replicate}
+use Rattle.std.specs.Prelude.{◌≡◌, List, [], ◌∷◌, ◌++◌, ℕ, ◌%◌, ◌<◌, negsuc, length, drop, replicate, Result, Ok, Err}
 use Rattle.op.specs.Opcodes.{last_opcode, Jump, RaiseUnboundLocal, ForIter, JumpIfTrueOrPop}
 use Rattle.op.specs.Refusals.{number_of}
 use Rattle.op.specs.declared.Operand.TheVariants.{U16, CallKw}
+use Rattle.op.specs.declared.Refusal.{Refusal}
 use Rattle.op.specs.declared.Refusal.TheVariants.{DepthBelowZero, JumpTooFar, TooManyKeywords, NameTooLarge}
 use Rattle.op.specs.declared.Refusal.TheVariants.{TooManyConstants, DepthsDiffer, NoDepths}
 use Rattle.code.specs.Bytes.{signed}
@@ -31,8 +32,7 @@ use Rattle.builder.specs.Forward.{jump_outcome, emit_jump_of}
 use Rattle.builder.specs.Back.{emit_jump_to_of}
 use Rattle.builder.specs.Patch.{patch_outcome, patch_jump_of}
 use Rattle.builder.specs.Constants.{added_kept, add_const_of}
-use Rattle.checker.specs.declared.Checked.{Checked}
-use Rattle.checker.specs.declared.Checked.TheVariants as C
+use Rattle.checker.specs.declared.Assignment.{Assignment}
 use Rattle.checker.specs.Promise.{Promise}
 
 -- a builder with so many bytes, marks and constants, and no location
@@ -65,16 +65,16 @@ patched_0 = mark_row patched_kind 0 0
 
 -- what the check of some bytes with some starts answers, and the depths that it leaves in a slice with room for them;
 -- the work slice ends with zeros
-abbrev pub Checks : List ℕ → List ℕ → Checked → List ℕ → Type 0
+abbrev pub Checks : List ℕ → List ℕ → Result Assignment Refusal → List ℕ → Type 0
 Checks code starts answer depths =
-    (d d' w w' : List ℕ) (r : Checked) → length code < length d → length code < length w
+    (d d' w w' : List ℕ) (r : Result Assignment Refusal) → length code < length d → length code < length w
     → Promise last_opcode code starts d d' w w' r
     → (r ≡ answer) × (d' ≡ depths ++ drop (length depths) d)
     × (w' ≡ replicate (length depths) 0 ++ drop (length depths) w)
 
 -- accepted: so many instructions have a depth, and so great is the greatest
-abbrev pub accepted : ℕ → ℕ → Checked
-accepted count greatest = C.Accepted (record { count = count; greatest = greatest })
+abbrev pub accepted : ℕ → ℕ → Result Assignment Refusal
+accepted count greatest = Ok (record { count = count; greatest = greatest })
 
 -- A's nine bytes
 abbrev pub code_a : List ℕ
@@ -155,7 +155,7 @@ pub record Examples : Type 0 where
       × (emit_of (live 0 0 0) (load_op 255) (load_operand 255) [] code [] ≡ outcome (R.Accepted (live 1 2 0)) (put 0 (0x0D ∷ 0xFF ∷ []) code) [])
       × (emit_of (live 0 0 0) (load_op 256) (load_operand 256) [] code [] ≡ outcome (R.Accepted (live 1 3 0)) (put 0 (0x0E ∷ 0x00 ∷ 0x01 ∷ []) code) [])
   -- K: 23
-  pub k : Checks code_k from_zero (C.Refused NoDepths) (65536 ∷ 65536 ∷ 65536 ∷ 65536 ∷ 65536 ∷ [])
+  pub k : Checks code_k from_zero (Err NoDepths) (65536 ∷ 65536 ∷ 65536 ∷ 65536 ∷ 65536 ∷ [])
       × (number_of NoDepths ≡ 23)
   -- L: no bytes, no starts: accepted, count 0; the greatest is 0
   pub l : Checks [] [] (accepted 0 0) (65536 ∷ [])

@@ -1,18 +1,17 @@
 -- Laws of strict mode: the first cell that holds too little is the lowest instruction with too little; how a check in a
 -- mode keeps its promise, and what its answer says of the old mode.
 -- Assumes nothing.
+use Rattle.std.specs.Prelude.{Result, Ok, Err}
 use mathlib.Core.Path.{◌≡◌, refl, sym, ap, subst, ◌∙◌}
 use mathlib.Core.List.{List, ◌++◌}
 use mathlib.Core.Logic.{⊎_elim, inl, inr}
 use mathlib.Core.Option.{some}
-use Prim.Native.Nat.{ℕ, suc, ◌+◌, ◌≤◌, ◌<◌}
-use native.Mathlib.Numerals.{add-one}
+use Prim.Native.Nat.{ℕ, suc, ◌<◌}
 use native.Mathlib.Decide.{dec_lt}
 use native.Mathlib.Omega.{arith}
-use lib.ListN.{length, get_or, take, drop, replicate, length-append, get_or-append}
+use lib.ListN.{length, get_or, drop, replicate, length-append, get_or-append}
 use lib.Seq.{drop-append_seam}
 use Rattle.base.proofs.Bools.{clash}
-use Rattle.base.proofs.Lists.{get_d_any}
 use Rattle.op.specs.Needs.{need_of}
 use Rattle.op.specs.declared.Refusal.{Refusal}
 use Rattle.op.specs.declared.Refusal.TheVariants.{NoDepths, TooFewValues}
@@ -21,66 +20,23 @@ use Rattle.code.specs.Flow.{flow_of}
 use Rattle.code.proofs.Assigning.{smallest_agree}
 use Rattle.code.proofs.Places.{stands_size}
 use Rattle.checker.specs.declared.Assignment.{Assignment}
-use Rattle.checker.specs.declared.Checked.{Checked}
-use Rattle.checker.specs.declared.Checked.TheVariants as C
-use Rattle.checker.specs.declared.Explained.{Explained}
-use Rattle.checker.specs.declared.Explained.TheVariants as E
+use Rattle.checker.specs.declared.Unmet.{Unmet}
+use Rattle.checker.specs.declared.Unmet.TheVariants.{Refused, Unsolved}
 use Rattle.checker.specs.Cells.{cell, depth_in}
 use Rattle.checker.specs.Inner.{NoFault}
 use Rattle.checker.specs.Promise.{Became, Accepts, Unless, stops, passes, Promise as OldPromise}
-use Rattle.checker.specs.Reasons.{Explains as OldExplains, answer_of as old_answer_of}
+use Rattle.checker.specs.Reasons.{Explains as OldExplains}
 use Rattle.checker.proofs.Holding.{depth_in_lem, in_depth, depth_same}
 use Rattle.checker.proofs.Reasoning.{OfReading, fault_is}
-use Rattle.checker.proofs.Promising.{accepted, accepted_whole, part_size, promise_one}
+use Rattle.checker.proofs.Promising.{accepted, accepted_whole, promise_one}
 use Rattle.checker.proofs.Solutions.{stands_by}
 use Rattle.strict.specs.declared.Mode.{Mode}
 use Rattle.strict.specs.declared.Mode.TheVariants.{Net, Strict}
-use Rattle.strict.specs.declared.Verdict.{Verdict}
-use Rattle.strict.specs.declared.Verdict.TheVariants as J
+use Rattle.strict.specs.declared.Unfit.{Unfit}
+use Rattle.strict.specs.declared.Unfit.TheVariants as J
 use Rattle.strict.specs.Promise.{Short, Lowest, Stricter, Promise, TooFew, answer_of, Reasoned, Explains}
 use Rattle.strict.specs.Statements.{StrictAccepted, StrictRefused, CheckOne, ExplainOne}
-use Rattle.strict.specs.Inner.{FirstShort, Shortened, EnoughBefore, Judged, plainly, Strictly, Roomy}
-
--- the pass over the cells
-
-module _ (s c : List ℕ) (room : length s < length c) (r : ℕ) where
-  -- all that was looked at is enough
-  pub short_none : EnoughBefore s c r → r ≤ length s → length s ≤ r → FirstShort s c r
-  short_none before l m = record { fits = l; before = before; here = λ h. absurd (omega arith) }
-
-  pub short_here : EnoughBefore s c r → r < length s → get_or c r 0 < need_of (get_or s r 0) → FirstShort s c r
-  short_here before l h = record {
-    fits = omega arith;
-    before = before;
-    here = λ m. omega (arith, get_d_any c r 65536 0 (omega arith));
-  }
-
-  pub enough_here : r < length s → need_of (get_or s r 0) ≤ get_or c r 0 → need_of (get_or s r 0) ≤ cell c r
-  enough_here l h = omega (arith, get_d_any c r 65536 0 (omega arith))
-
-module _ (s c : List ℕ) (r : ℕ) (F : FirstShort s c r) where
-  pub judged_short : (a : Assignment) (c' : List ℕ) (v : Verdict) → length s < length c → r < length s
-      → Shortened s c c' r v → Judged s c c' a v
-  judged_short a c' v room l S =
-      let held : get_or c r 0 ≡ cell c r = get_d_any c r 0 65536 (omega arith) in
-      inr (
-        r,
-        record {
-          inside = l;
-          less = F.here l;
-          before = F.before;
-          answer = S.answer ∙ ap (λ (x : ℕ). J.TooFew r x (need_of (get_or s r 0))) held;
-          blank = S.blank;
-        },
-      )
-
-  pub judged_enough : (a : Assignment) → length s ≤ r → Judged s c c a (J.Accepted a)
-  judged_enough a l = inl (λ o h. F.before o (omega arith), refl, refl)
-
--- the first cells were filled
-pub blanked : (s d c : List ℕ) → length s < length d → c ≡ replicate (length (take (length s + 1) d)) 65536
-    → Became s d (c ++ drop (length s + 1) d) (replicate (suc (length s)) 65536)
-blanked s d c l e = rw (e, part_size d (length s) l, add-one (length s)) refl
+use Rattle.strict.specs.Inner.{EnoughBefore, Judged, unfit_of}
 
 -- where cells hold enough no instruction is short
 not_short : {last : ℕ} {s : List ℕ} (e : List ℕ) (n o : ℕ) → EnoughBefore s e n → o < n → Short last s (depth_in e) o → ⊥
@@ -88,7 +44,7 @@ not_short {last} {s} e n o h l S = omega (arith, h o l, (in_depth e o S.depth S.
 
 -- what was accepted
 
-module _ {last : ℕ} {s st d e w w' : List ℕ} {x : Checked} (A : Accepts last s st d e w w' x) where
+module _ {last : ℕ} {s st d e w w' : List ℕ} {x : Result Assignment Refusal} (A : Accepts last s st d e w w' x) where
   size : length A.cells ≡ suc (length s)
   size = A.solution.size
 
@@ -118,8 +74,8 @@ module _ {last : ℕ} {s st d e w w' : List ℕ} {x : Checked} (A : Accepts last
       let stands = stands_by s o (flow_of last o (drop o s)) refl whole at.0 l in
       record { place = at.0; flow = stands.0; stands = stands.1; depth = cell e o; has = has; less = h }
 
-  judged_stricter : NoFault last s → (a : Assignment) (d' : List ℕ) (r : Verdict) → Judged s e d' a r
-      → Stricter last s d e d' (C.Accepted a) (answer_of r)
+  judged_stricter : NoFault last s → (a : Assignment) (d' : List ℕ) (r : Result Assignment Unfit) → Judged s e d' a r
+      → Stricter last s d e d' (Ok a) (answer_of r)
   judged_stricter whole a d' r = ⊎_elim
       (λ j. inl (
         λ o S. not_short e (length s) o j.0 (omega (arith, stands_size S.stands)) S,
@@ -129,9 +85,9 @@ module _ {last : ℕ} {s st d e w w' : List ℕ} {x : Checked} (A : Accepts last
       (λ j. inr (
         j.0,
         record {
-          holds = short_at whole j.0 j.1.inside j.1.less;
+          holds = short_at whole j.0 j.1.first.inside j.1.first.less;
           least = λ q S. elim (dec_lt q j.0) [
-            | yes l ↦ absurd (not_short e j.0 q j.1.before l S)
+            | yes l ↦ absurd (not_short e j.0 q j.1.first.before l S)
             | no l ↦ omega arith
           ];
         },
@@ -151,10 +107,14 @@ module _ {last : ℕ} {s st d e w w' : List ℕ} {x : Checked} (A : Accepts last
 
 -- two answers that are the same
 
-refused_one : {p q : Refusal} → C.Refused p ≡ C.Refused q → p ≡ q
+-- an answer without its reason
+abbrev Answer : Type 0
+Answer = Result Assignment Refusal
+
+refused_one : {p q : Refusal} → ◌≡◌ {A = Answer} (Err p) (Err q) → p ≡ q
 refused_one {p} {q} e = cc
 
-not_both : {a : Assignment} {q : Refusal} → C.Accepted a ≡ C.Refused q → ⊥
+not_both : {a : Assignment} {q : Refusal} → ◌≡◌ {A = Answer} (Ok a) (Err q) → ⊥
 not_both {a} {q} e = clash cc
 
 -- the old mode never refuses by 26
@@ -166,7 +126,7 @@ no_way (passes n b) here behind = behind b
 not_of_reading : {q : Refusal} {o : ℕ} → OfReading q → q ≡ TooFewValues o → ⊥
 not_of_reading {q} {o} R e = ⊎_elim (λ i. clash cc) (λ i. clash cc) R.1
 
-not_strict : (last : ℕ) (s st d d' w w' : List ℕ) (o : ℕ) → OldPromise last s st d d' w w' (C.Refused (TooFewValues o)) → ⊥
+not_strict : (last : ℕ) (s st d d' w w' : List ℕ) (o : ℕ) → OldPromise last s st d d' w w' (Err (TooFewValues o)) → ⊥
 unfolding OldPromise
 not_strict last s st d d' w w' o P =
     no_way P (λ q p a. (let e = p.0 in let h = a.0 in clash cc)) (λ P.
@@ -177,80 +137,79 @@ not_strict last s st d d' w w' o P =
 
 -- how a check in a mode keeps its promise
 
-plain_answer : (x : Explained) → answer_of (plainly x) ≡ old_answer_of x
-plain_answer (E.Accepted a) = refl
-plain_answer (E.Refused q) = refl
-plain_answer (E.Unsolved why) = refl
-
 module _ {last : ℕ} {s st d e w w' : List ℕ} where
-  pub roomy : (x : Explained) → OldExplains last s st d e w w' x → Roomy s e x
-  roomy (E.Accepted a) X = accepted_room (accepted X.promise refl)
-  roomy (E.Refused q) X = tt
-  roomy (E.Unsolved why) X = tt
-
-  plain_reasoned : (x : Explained) → OldExplains last s st d e w w' x → Reasoned last s st (plainly x)
-  plain_reasoned (E.Accepted a) X = tt
-  plain_reasoned (E.Refused q) X = (
+  -- what the old mode does not accept
+  err_reasoned : (u : Unmet) → OldExplains last s st d e w w' (Err u) → Reasoned last s st (Err (unfit_of u))
+  err_reasoned (Refused q) X = (
     X.reasoned,
     λ o z. not_strict last s st d e w w' o
-        (subst (λ (p : Refusal). OldPromise last s st d e w w' (C.Refused p)) z X.promise),
+        (subst (λ (p : Refusal). OldPromise last s st d e w w' (Err p)) z X.promise),
   )
-  plain_reasoned (E.Unsolved why) X = X.reasoned
+  err_reasoned (Unsolved why) X = X.reasoned
 
-  net_explains : (x : Explained) → OldExplains last s st d e w w' x → Explains Net last s st d e w w' (plainly x)
-  net_explains x X = record {
-    promise = subst (OldPromise last s st d e w w') (sym (plain_answer x)) X.promise;
-    reasoned = plain_reasoned x X;
-  }
+  err_promise : (mode : Mode) (u : Unmet) → OldExplains last s st d e w w' (Err u)
+      → Promise mode last s st d e w w' (answer_of (Err (unfit_of u)))
+  err_promise Net (Refused q) X = X.promise
+  err_promise Net (Unsolved why) X = X.promise
+  err_promise Strict (Refused q) X =
+      record { old = Err q; left = e; promise = X.promise; stricter = (refl, refl) }
+  err_promise Strict (Unsolved why) X =
+      record { old = Err NoDepths; left = e; promise = X.promise; stricter = (refl, refl) }
 
-  pub by_net : (mode : Mode) (x : Explained) (r : Verdict) → mode ≡ Net → r ≡ plainly x → OldExplains last s st d e w w' x
-      → Explains mode last s st d e w w' r
-  by_net mode x r m is X = rw (m, is) (net_explains x X)
+  module _ {x : Result Assignment Unmet} (X : OldExplains last s st d e w w' x) where
+    pub by_err : (mode : Mode) (u : Unmet) → x ≡ Err u → Explains mode last s st d e w w' (Err (unfit_of u))
+    by_err mode u is =
+        let Y = subst (OldExplains last s st d e w w') is X in
+        record { promise = err_promise mode u Y; reasoned = err_reasoned u Y }
 
-  stricter_by : (x : Explained) (r : Verdict) (d' : List ℕ) → OldExplains last s st d e w w' x → Strictly s e d' x r
-      → Stricter last s d e d' (old_answer_of x) (answer_of r)
-  stricter_by (E.Accepted a) r d' X j =
-      judged_stricter (accepted X.promise refl) (accepted_whole last s st d e w w' X.promise refl) a d' r j
-  stricter_by (E.Refused q) r d' X j = (ap answer_of j.0, j.1)
-  stricter_by (E.Unsolved why) r d' X j = (ap answer_of j.0, j.1)
+    -- what it accepts
+    module _ (a : Assignment) (is : x ≡ Ok a) where
+      told : OldExplains last s st d e w w' (Ok a)
+      told = subst (OldExplains last s st d e w w') is X
 
-  strict_reasoned : (x : Explained) (r : Verdict) (d' : List ℕ) → OldExplains last s st d e w w' x → Strictly s e d' x r
-      → Reasoned last s st r
-  strict_reasoned (E.Accepted a) r d' X j = ⊎_elim
-      (λ i. subst (Reasoned last s st) (sym i.1) tt)
-      (λ i. subst (Reasoned last s st) (sym i.1.answer)
-      (too_few (accepted X.promise refl) i.0 i.1.inside i.1.less)) j
-  strict_reasoned (E.Refused q) r d' X j = subst (Reasoned last s st) (sym j.0) (plain_reasoned (E.Refused q) X)
-  strict_reasoned (E.Unsolved why) r d' X j = subst (Reasoned last s st) (sym j.0) X.reasoned
+      old : Accepts last s st d e w w' (Ok a)
+      old = accepted told.promise refl
 
-  strict_explains : (x : Explained) (r : Verdict) (d' : List ℕ) → OldExplains last s st d e w w' x
-      → Strictly s e d' x r → Explains Strict last s st d d' w w' r
-  strict_explains x r d' X j = record {
-    promise = record { old = old_answer_of x; left = e; promise = X.promise; stricter = stricter_by x r d' X j };
-    reasoned = strict_reasoned x r d' X j;
-  }
+      pub roomy : length s < length e
+      roomy = accepted_room old
 
-  pub by_strict : (mode : Mode) (x : Explained) (r : Verdict) (d' : List ℕ) → mode ≡ Strict
-      → OldExplains last s st d e w w' x → Strictly s e d' x r → Explains mode last s st d d' w w' r
-  by_strict mode x r d' m X j = rw m (strict_explains x r d' X j)
+      module _ (d' : List ℕ) (r : Result Assignment Unfit) (J : Judged s e d' a r) where
+        strict_reasoned : Reasoned last s st r
+        strict_reasoned = ⊎_elim
+            (λ i. subst (Reasoned last s st) (sym i.1) tt)
+            (λ i. subst (Reasoned last s st) (sym i.1.answer) (too_few old i.0 i.1.first.inside i.1.first.less)) J
+
+        strict_explains : Explains Strict last s st d d' w w' r
+        strict_explains = record {
+          promise = record {
+            old = Ok a;
+            left = e;
+            promise = told.promise;
+            stricter = judged_stricter old (accepted_whole last s st d e w w' told.promise refl) a d' r J;
+          };
+          reasoned = strict_reasoned;
+        }
+
+        pub by_strict : (mode : Mode) → mode ≡ Strict → Explains mode last s st d d' w w' r
+        by_strict mode m = rw m strict_explains
 
 -- what a strict answer says of the old mode
 
 pub strict_accepted : StrictAccepted
 strict_accepted last s st d d' w w' a S = by S.old S.stricter S.promise
   where
-    by : (x : Checked) → Stricter last s d S.left d' x (C.Accepted a) → OldPromise last s st d S.left w w' x
-        → OldPromise last s st d d' w w' (C.Accepted a)
-    by (C.Refused q) h P = absurd (not_both h.0)
-    by (C.Accepted b) h P = ⊎_elim (λ i. rw (i.2, i.1) P) (λ i. absurd (not_both i.2)) h
+    by : (x : Result Assignment Refusal) → Stricter last s d S.left d' x (Ok a) → OldPromise last s st d S.left w w' x
+        → OldPromise last s st d d' w w' (Ok a)
+    by (Err q) h P = absurd (not_both h.0)
+    by (Ok b) h P = ⊎_elim (λ i. rw (i.2, i.1) P) (λ i. absurd (not_both i.2)) h
 
 pub strict_refused : StrictRefused
 strict_refused last s st d d' w w' q other S = by S.old S.stricter S.promise
   where
-    by : (x : Checked) → Stricter last s d S.left d' x (C.Refused q) → OldPromise last s st d S.left w w' x
-        → OldPromise last s st d d' w w' (C.Refused q)
-    by (C.Refused p) h P = rw (h.1, h.0) P
-    by (C.Accepted b) h P = ⊎_elim (λ i. absurd (not_both (sym i.1))) (λ i. absurd (other i.0 (refused_one i.2))) h
+    by : (x : Result Assignment Refusal) → Stricter last s d S.left d' x (Err q) → OldPromise last s st d S.left w w' x
+        → OldPromise last s st d d' w w' (Err q)
+    by (Err p) h P = rw (h.1, h.0) P
+    by (Ok b) h P = ⊎_elim (λ i. absurd (not_both (sym i.1))) (λ i. absurd (other i.0 (refused_one i.2))) h
 
 -- equal inputs, equal answers
 
@@ -258,17 +217,17 @@ lowest_one : (P : ℕ → Type 0) (o q : ℕ) → Lowest P o → Lowest P q → 
 lowest_one P o q A B = omega (arith, A.least q B.holds, B.least o A.holds)
 
 module _ (last : ℕ) (s d e : List ℕ) {d₁ d₂ : List ℕ} where
-  stricter_one : (x r₁ r₂ : Checked) → Stricter last s d e d₁ x r₁ → Stricter last s d e d₂ x r₂
+  stricter_one : (x r₁ r₂ : Result Assignment Refusal) → Stricter last s d e d₁ x r₁ → Stricter last s d e d₂ x r₂
       → (r₁ ≡ r₂) × (d₁ ≡ d₂)
-  stricter_one (C.Refused q) r₁ r₂ p q' = (p.0 ∙ sym q'.0, p.1 ∙ sym q'.1)
-  stricter_one (C.Accepted a) r₁ r₂ p q = both p q
+  stricter_one (Err q) r₁ r₂ p q' = (p.0 ∙ sym q'.0, p.1 ∙ sym q'.1)
+  stricter_one (Ok a) r₁ r₂ p q = both p q
     where
-      both : Stricter last s d e d₁ (C.Accepted a) r₁ → Stricter last s d e d₂ (C.Accepted a) r₂ → (r₁ ≡ r₂) × (d₁ ≡ d₂)
+      both : Stricter last s d e d₁ (Ok a) r₁ → Stricter last s d e d₂ (Ok a) r₂ → (r₁ ≡ r₂) × (d₁ ≡ d₂)
       both (inl x) (inl y) = (x.1 ∙ sym y.1, x.2 ∙ sym y.2)
       both (inl x) (inr y) = absurd (x.0 y.0 y.1.holds)
       both (inr x) (inl y) = absurd (y.0 x.0 x.1.holds)
       both (inr x) (inr y) = (
-        x.2 ∙ ap (λ (o : ℕ). C.Refused (TooFewValues o)) (lowest_one _ x.0 y.0 x.1 y.1) ∙ sym y.2,
+        x.2 ∙ ap (λ (o : ℕ). Err (TooFewValues o)) (lowest_one _ x.0 y.0 x.1 y.1) ∙ sym y.2,
         x.3 ∙ sym y.3,
       )
 
@@ -283,7 +242,7 @@ check_one Strict last s st d d₁ d₂ w w₁ w₂ r₁ r₂ P Q =
 some_one : {x y : ℕ} → some x ≡ some y → x ≡ y
 some_one {x} {y} e = cc
 
-named_one : {o p : ℕ} → C.Refused (TooFewValues o) ≡ C.Refused (TooFewValues p) → o ≡ p
+named_one : {o p : ℕ} → ◌≡◌ {A = Answer} (Err (TooFewValues o)) (Err (TooFewValues p)) → o ≡ p
 named_one {o} {p} e = cc
 
 module _ (last : ℕ) (s st : List ℕ) where
@@ -291,34 +250,30 @@ module _ (last : ℕ) (s st : List ℕ) where
   depth_one {o} {p} {x} {y} {k} {n} e A B =
       some_one (sym A.has ∙ smallest_agree A.smallest B.smallest o ∙ ap B.assignment e ∙ B.has)
 
-  few_one : {o p x y k n : ℕ} → o ≡ p → TooFew last s st o x k → TooFew last s st p y n → J.TooFew o x k ≡ J.TooFew p y n
+  few_one : {o p x y k n : ℕ} → o ≡ p → TooFew last s st o x k → TooFew last s st p y n
+      → ◌≡◌ {A = Result Assignment Unfit} (Err (J.TooFew o x k)) (Err (J.TooFew p y n))
   few_one {o} {p} {x} {y} {k} {n} e A B =
       let needs : k ≡ n = A.needs ∙ ap (λ (q : ℕ). need_of (get_or s q 0)) e ∙ sym B.needs in
       rw (e, depth_one e A B, needs) refl
 
   -- one answer has one reason, but for 23
-  verdict_one : (x y : Verdict) → Reasoned last s st x → Reasoned last s st y → answer_of x ≡ answer_of y
-      → (answer_of x ≡ C.Refused NoDepths → ⊥) → x ≡ y
-  verdict_one (J.Accepted a) (J.Accepted b) R S e n = cc
-  verdict_one (J.Accepted a) (J.Refused q) R S e n = absurd (not_both e)
-  verdict_one (J.Accepted a) (J.Unsolved why) R S e n = absurd (not_both e)
-  verdict_one (J.Accepted a) (J.TooFew o depth need) R S e n = absurd (not_both e)
-  verdict_one (J.Refused p) (J.Accepted b) R S e n = absurd (not_both (sym e))
-  verdict_one (J.Refused p) (J.Refused q) R S e n = cc
-  verdict_one (J.Refused p) (J.Unsolved why) R S e n = absurd (n e)
-  verdict_one (J.Refused p) (J.TooFew o depth need) R S e n = absurd (R.1 o (refused_one e))
-  verdict_one (J.Unsolved why) y R S e n = absurd (n refl)
-  verdict_one (J.TooFew o depth need) (J.Accepted b) R S e n = absurd (not_both (sym e))
-  verdict_one (J.TooFew o depth need) (J.Refused q) R S e n = absurd (S.1 o (refused_one (sym e)))
-  verdict_one (J.TooFew o depth need) (J.Unsolved why) R S e n = absurd (n e)
-  verdict_one (J.TooFew o depth need) (J.TooFew p other more) R S e n = few_one (named_one e) R S
+  verdict_one : (x y : Result Assignment Unfit) → Reasoned last s st x → Reasoned last s st y → answer_of x ≡ answer_of y
+      → (answer_of x ≡ Err NoDepths → ⊥) → x ≡ y
+  verdict_one (Ok a) (Ok b) R S e n = cc
+  verdict_one (Ok a) (Err (J.Refused q)) R S e n = absurd (not_both e)
+  verdict_one (Ok a) (Err (J.Unsolved why)) R S e n = absurd (not_both e)
+  verdict_one (Ok a) (Err (J.TooFew o depth need)) R S e n = absurd (not_both e)
+  verdict_one (Err (J.Refused p)) (Ok b) R S e n = absurd (not_both (sym e))
+  verdict_one (Err (J.Refused p)) (Err (J.Refused q)) R S e n = cc
+  verdict_one (Err (J.Refused p)) (Err (J.Unsolved why)) R S e n = absurd (n e)
+  verdict_one (Err (J.Refused p)) (Err (J.TooFew o depth need)) R S e n = absurd (R.1 o (refused_one e))
+  verdict_one (Err (J.Unsolved why)) y R S e n = absurd (n refl)
+  verdict_one (Err (J.TooFew o depth need)) (Ok b) R S e n = absurd (not_both (sym e))
+  verdict_one (Err (J.TooFew o depth need)) (Err (J.Refused q)) R S e n = absurd (S.1 o (refused_one (sym e)))
+  verdict_one (Err (J.TooFew o depth need)) (Err (J.Unsolved why)) R S e n = absurd (n e)
+  verdict_one (Err (J.TooFew o depth need)) (Err (J.TooFew p other more)) R S e n = few_one (named_one e) R S
 
 pub explain_one : ExplainOne
 explain_one mode last s st d d₁ d₂ w w₁ w₂ r₁ r₂ P Q =
     let same = check_one mode last s st d d₁ d₂ w w₁ w₂ (answer_of r₁) (answer_of r₂) P.promise Q.promise in
     (same, verdict_one last s st r₁ r₂ P.reasoned Q.reasoned same.0)
-
--- an answer that is given without its reason
-pub promised : {mode : Mode} {last : ℕ} {s st d d' w w' : List ℕ} (v : Verdict) (r : Checked)
-    → Explains mode last s st d d' w w' v → r ≡ answer_of v → Promise mode last s st d d' w w' r
-promised v r X e = rw e X.promise

@@ -4,11 +4,11 @@
 
 ghost use Rattle.std.specs.Prelude.{◌≡◌, ◌<◌, length};
 ghost use Rattle.op.specs.Opcodes.{last_opcode};
-ghost use Rattle.strict.specs.Promise.{answer_of, Promise, Explains};
-ghost use Rattle.strict.specs.Inner.{FirstShort, Shortened, Judged, plainly, Strictly, Roomy};
+ghost use Rattle.strict.specs.Promise.{Promise, Explains};
+ghost use Rattle.strict.specs.Inner.{FirstShort, Shortened, Judged, unfit_of, refusal_of};
 
-use checker::{Assignment, Checked, Explained, Reason};
-use code::{NO_DEPTH, lent};
+use checker::{Assignment, Reason, Unmet};
+use code::NO_DEPTH;
 use op::{Refusal, needs};
 
 // What a check asks of an instruction's depth.
@@ -20,10 +20,9 @@ pub enum Mode {
     Strict,
 }
 
-// What a check answers that says why.
+// Why a check that says why accepts nothing.
 #[derive(Clone, Copy)]
-pub enum Verdict {
-    Accepted(Assignment),
+pub enum Unfit {
     // 10, 21, 1 or 22 with the offset, 20
     Refused(Refusal),
     // 23
@@ -32,66 +31,60 @@ pub enum Verdict {
     TooFew { at: usize, depth: u32, need: u8 },
 }
 
-// The first offset whose cell holds less than its byte needs as an opcode; the code's length where there is none.
-fn first_short(code: &[u8], cells: &[u32]) -> usize
+impl From<Unmet> for Unfit {
+    ghost from_gives = { λ unmet unfit. unfit ≡ unfit_of unmet };
+
+    fn from(unmet: Unmet) -> Unfit {
+        match unmet {
+            Unmet::Refused(refusal) => Unfit::Refused(refusal),
+            Unmet::Unsolved(why) => Unfit::Unsolved(why),
+        }
+    }
+}
+
+// The refusal without the reason.
+impl From<Unfit> for Refusal {
+    ghost from_gives = { λ unfit refusal. refusal ≡ refusal_of unfit };
+
+    fn from(unfit: Unfit) -> Refusal {
+        match unfit {
+            Unfit::Refused(refusal) => refusal,
+            Unfit::Unsolved(_) => Refusal::NoDepths,
+            Unfit::TooFew { at, .. } => Refusal::TooFewValues(at),
+        }
+    }
+}
+
+// The first offset whose cell holds less than its byte needs as an opcode, if there is one.
+fn first_short(code: &[u8], cells: &[u32]) -> Option<usize>
     requires { length code.now < length cells.now }
     ensures { FirstShort code.now cells.now result }
 {
-    let mut o = 0;
-    while o < code.len() {
-        let need = needs::need(code[o]);
-        if cells[o] < need as u32 {
-            return o;
-        }
-        o += 1;
-    }
-    o
+    code.iter()
+        .zip(cells)
+        .position(|(opcode, depth)| *depth < u32::from(needs::need(*opcode)))
 }
 
 // 26 of the instruction at an offset; no depth is left in its cell.
-fn refuse(code: &[u8], depths: &mut [u32], at: usize) -> Verdict
+fn refuse(code: &[u8], depths: &mut [u32], at: usize) -> Unfit
     requires { (length code.now < length depths.old) × (at < length code.now) }
     ensures { Shortened code.now depths.old depths.new at result }
 {
     let depth = depths[at];
     let need = needs::need(code[at]);
     let end = code.len() + 1;
-    lent::fill(&mut depths[..end], NO_DEPTH);
-    Verdict::TooFew { at, depth, need }
+    depths[..end].fill(NO_DEPTH);
+    Unfit::TooFew { at, depth, need }
 }
 
 // What becomes of depths that the old mode accepts.
-fn judge(code: &[u8], depths: &mut [u32], assignment: Assignment) -> Verdict
+fn judge(code: &[u8], depths: &mut [u32], assignment: Assignment) -> Result<Assignment, Unfit>
     requires { length code.now < length depths.old }
     ensures { Judged code.now depths.old depths.new assignment result }
 {
-    let at = first_short(code, depths);
-    if at < code.len() {
-        return refuse(code, depths, at);
-    }
-    Verdict::Accepted(assignment)
-}
-
-// The old mode's answer.
-fn plain(explained: Explained) -> Verdict
-    ensures { result ≡ plainly explained }
-{
-    match explained {
-        Explained::Accepted(assignment) => Verdict::Accepted(assignment),
-        Explained::Refused(refusal) => Verdict::Refused(refusal),
-        Explained::Unsolved(why) => Verdict::Unsolved(why),
-    }
-}
-
-// What becomes of the old mode's answer.
-fn strictly(code: &[u8], depths: &mut [u32], explained: Explained) -> Verdict
-    requires { Roomy code.now depths.old explained }
-    ensures { Strictly code.now depths.old depths.new explained result }
-{
-    match explained {
-        Explained::Accepted(assignment) => judge(code, depths, assignment),
-        Explained::Refused(refusal) => Verdict::Refused(refusal),
-        Explained::Unsolved(why) => Verdict::Unsolved(why),
+    match first_short(code, depths) {
+        Some(at) => Err(refuse(code, depths, at)),
+        None => Ok(assignment),
     }
 }
 
@@ -103,40 +96,27 @@ pub fn explain(
     starts: &[u32],
     depths: &mut [u32],
     work: &mut [u32],
-) -> Verdict
+) -> Result<Assignment, Unfit>
     ensures { Explains mode last_opcode code.now starts.now depths.old
         depths.new work.old work.new result }
 {
-    let explained = checker::explain(code, starts, depths, work);
+    let assignment = checker::explain(code, starts, depths, work)?;
     match mode {
-        Mode::Net => plain(explained),
-        Mode::Strict => strictly(code, depths, explained),
+        Mode::Net => Ok(assignment),
+        Mode::Strict => judge(code, depths, assignment),
     }
 }
 
-// The answer without the reason.
-fn answer_of(verdict: Verdict) -> Checked
-    ensures { result ≡ answer_of verdict }
-{
-    match verdict {
-        Verdict::Accepted(assignment) => Checked::Accepted(assignment),
-        Verdict::Refused(refusal) => Checked::Refused(refusal),
-        Verdict::Unsolved(_) => Checked::Refused(Refusal::NoDepths),
-        Verdict::TooFew { at, .. } => Checked::Refused(Refusal::TooFewValues(at)),
-    }
-}
-
-// The same without the reason.
+// The same without the reason; besides what `checker::check` refuses, 26 in strict mode.
 pub fn check(
     mode: Mode,
     code: &[u8],
     starts: &[u32],
     depths: &mut [u32],
     work: &mut [u32],
-) -> Checked
+) -> Result<Assignment, Refusal>
     ensures { Promise mode last_opcode code.now starts.now depths.old
         depths.new work.old work.new result }
 {
-    let verdict = explain(mode, code, starts, depths, work);
-    answer_of(verdict)
+    Ok(explain(mode, code, starts, depths, work)?)
 }

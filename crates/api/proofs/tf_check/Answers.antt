@@ -5,14 +5,16 @@ use mathlib.Core.List.{List}
 use Prim.Native.Nat.{ℕ}
 use native.Mathlib.Omega.{arith}
 use Rattle.op.specs.Opcodes.{last_opcode}
-use Rattle.checker.specs.declared.Checked.{Checked}
+use Rattle.std.specs.Prelude.{Result}
+use Rattle.op.specs.declared.Refusal.{Refusal}
+use Rattle.checker.specs.declared.Assignment.{Assignment}
 use Rattle.strict.specs.declared.Mode.{Mode}
 use Rattle.strict.specs.Promise.{Promise}
 use Rattle.api.specs.Checks.{check_answer, greatest_told, CheckTold}
 use Rattle.api.proofs.tf_check.Goals as goal
 
 -- an answer in a mode is one in the same mode under another name
-told : {s st d d' w w' : List ℕ} {g g' n : ℕ} (m k : Mode) (r : Checked) → k ≡ m
+told : {s st d d' w w' : List ℕ} {g g' n : ℕ} (m k : Mode) (r : Result Assignment Refusal) → k ≡ m
     → Promise k last_opcode s st d d' w w' r → n ≡ check_answer r → g' ≡ greatest_told r g
     → CheckTold m s st d d' w w' g g' n
 told m k r e P a b = rw (← e) (record { answer = r; promise = P; number = a; greatest = b })

@@ -6,13 +6,15 @@ use Prim.Native.Nat.{ℕ}
 use native.Mathlib.Omega.{arith}
 use Rattle.op.specs.Opcodes.{last_opcode}
 use Rattle.strict.specs.declared.Mode.{Mode}
-use Rattle.strict.specs.declared.Verdict.{Verdict}
+use Rattle.std.specs.Prelude.{Result}
+use Rattle.checker.specs.declared.Assignment.{Assignment}
+use Rattle.strict.specs.declared.Unfit.{Unfit}
 use Rattle.strict.specs.Promise.{Explains, answer_of}
 use Rattle.api.specs.Checks.{check_answer, greatest_told, reason_cells, ReasonTold}
 use Rattle.api.proofs.tf_explain.Goals as goal
 
 -- an answer in a mode is one in the same mode under another name
-told : {s st d d' w w' t t' : List ℕ} {g g' n : ℕ} (m k : Mode) (r : Verdict) → k ≡ m
+told : {s st d d' w w' t t' : List ℕ} {g g' n : ℕ} (m k : Mode) (r : Result Assignment Unfit) → k ≡ m
     → Explains k last_opcode s st d d' w w' r
     → (n ≡ check_answer (answer_of r)) × (g' ≡ greatest_told (answer_of r) g) × (t' ≡ reason_cells r t)
     → ReasonTold m s st d d' w w' t t' g g' n

@@ -10,5 +10,5 @@ overflow_sub-result c = omega (arith, c.requires.1, held_before c.args.cells.now
 pub returns-then-last-le-WORD_MAX : goal.returns-then-last-le-WORD_MAX
 returns-then-last-le-WORD_MAX c = omega (arith, c.requires.1, held_before c.args.cells.now c.requires.0 c.if-last-le-WORD_MAX.true)
 
-pub returns : goal.returns
-returns c = omega (arith, c.requires.1, held_same c.args.cells.now c.requires.0 c.if-last-le-WORD_MAX.false)
+pub returns-else-last-le-WORD_MAX : goal.returns-else-last-le-WORD_MAX
+returns-else-last-le-WORD_MAX c = omega (arith, c.requires.1, held_same c.args.cells.now c.requires.0 c.if-last-le-WORD_MAX.false)

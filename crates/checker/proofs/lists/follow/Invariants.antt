@@ -4,8 +4,8 @@ use Rattle.op.specs.Opcodes.{last_opcode}
 use Rattle.checker.specs.Inner.{InHand}
 use Rattle.checker.proofs.lists.follow.Given as goal
 
-abbrev pub invariant-loop-t : goal.invariant-loop-t
-invariant-loop-t l = (l.taken ≤ l.count) × InHand last_opcode l.code l.initial.cells l.cells l.work l.wait l.place l.count
+abbrev pub invariant-places : goal.invariant-places
+invariant-places l = (l.fn.taken ≤ l.taken) × InHand last_opcode l.code l.initial.cells l.cells l.work l.top l.at l.taken
 
-abbrev pub decreases-loop-t : goal.decreases-loop-t
-decreases-loop-t l = length l.cells - l.count
+abbrev pub decreases-places : goal.decreases-places
+decreases-places l = length l.cells - l.taken

@@ -1,30 +1,22 @@
 -- `checker::walks::mark_places` meets its contract: the loop's invariant: `at` is a place, and the places before it,
 -- and only places, are marked.
 -- Assumes nothing.
+use Rattle.std.specs.Prelude.{Result}
 use mathlib.Core.Path.{refl, sym, subst}
 use native.Mathlib.Omega.{arith}
-use lib.ListN.{set, length-set}
+use lib.ListN.{set}
 use Rattle.op.specs.Opcodes.{last_opcode}
-use Rattle.checker.specs.declared.Walk.{Walk}
+use Rattle.op.specs.declared.Refusal.{Refusal}
 use Rattle.checker.specs.Inner.{place_mark, Sized, Walked}
-use Rattle.checker.proofs.Walking.{sized_in_code, sized_in, marking_none, at_inside, marking_on, walked}
+use Rattle.checker.proofs.Walking.{sized_in_code, sized_in, marking_none, marking_on, walked}
 use Rattle.checker.proofs.walks.mark_places.Goals as goal
 
 pub loop-at-init : goal.loop-at-init
 loop-at-init c = marking_none c.requires.0 c.requires.1
 
-pub offset_bounds-work-at : goal.offset_bounds-work-at
-offset_bounds-work-at c = omega (arith, at_inside c.loop-at.invariant)
-
-pub bounds-work-at : goal.bounds-work-at
-bounds-work-at c = omega (arith, at_inside c.loop-at.invariant)
-
-pub shape_of-work-then-size-eq0 : goal.shape_of-work-then-size-eq0
-shape_of-work-then-size-eq0 c = simp length-set (omega (arith, c.loop-at.invariant.size, c.requires.0))
-
 pub returns-then-size-eq0 : goal.returns-then-size-eq0
 returns-then-size-eq0 c =
-    subst (λ (x : Walk). Walked last_opcode c.args.code.now
+    subst (λ (x : Result (Unit {0}) Refusal). Walked last_opcode c.args.code.now
     (set c.loop-at.work c.loop-at.at place_mark) x) (sym c.stop.ensures)
     (walked c.loop-at.invariant (subst (Sized last_opcode c.args.code.now c.loop-at.at)
     c.if-size-eq0.true (sized_in_code c.size_at-size.ensures)) _ refl)
