@@ -1,5 +1,6 @@
 -- What a part that was written, or was not made, says of the listing.
 -- Assumes nothing.
+use Rattle.std.specs.Prelude.{Ok}
 use mathlib.Core.Path.{◌≡◌, refl, sym, ap, ◌∙◌}
 use mathlib.Core.Bool.{Bool, true, false, cond, ◌&&◌}
 use mathlib.Core.List.{List, ◌++◌}
@@ -8,9 +9,8 @@ use native.Mathlib.Omega.{arith}
 use lib.Dec.{ltb}
 use lib.ListN.{length, take}
 use borrow.Author.Tests.{ltb-true, ltb-false}
-use Rattle.text.specs.Fitting.{text_of, listed_of, listed_in}
+use Rattle.text.specs.Fitting.{made, text_of, listed_of, listed_in}
 use Rattle.text.specs.Lines.{plain_lines}
-use Rattle.text.specs.declared.Listed.TheVariants.{Part}
 use Rattle.text.proofs.Joining.{joins, plain_left, plain_all}
 use Rattle.listing.specs.Printing.{Turns}
 use Rattle.listing.specs.declared.Printed.{Printed}
@@ -24,7 +24,7 @@ pub turned_none : (code : List ℕ) (from : ℕ) (out : List ℕ)
 turned_none code from out = record { part = refl; fewer = not_so; last = λ m f. not_so f }
 
 module _ (code : List ℕ) (from : ℕ) (old out : List ℕ) (n next : ℕ)
-    (e : listed_of (plain_lines code from) from old ≡ Part n next) (c : out ≡ listed_in (plain_lines code from) from old)
+    (e : listed_of (plain_lines code from) from old ≡ made n next) (c : out ≡ listed_in (plain_lines code from) from old)
   where
     part_is : text_of (plain_lines code from) ≡ take n out ++ text_of (plain_lines code next)
     part_is = plain_left code old from n next e ∙ ap (λ (l : List ℕ). take n l ++ text_of (plain_lines code next)) (sym c)

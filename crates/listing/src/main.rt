@@ -7,7 +7,7 @@ ghost use Rattle.text.specs.Lines.{plain_lines};
 ghost use Rattle.listing.specs.Printing.{Turns};
 
 use std::io::Read;
-use text::{Listed, listing};
+use text::{listing};
 
 // A part that was printed: its length, the cursor behind it, whether there may be more, and whether nothing went wrong.
 #[derive(Clone, Copy)]
@@ -54,7 +54,7 @@ fn turn(rt: &impl Print, code: &[u8], from: usize, out: &mut [u8]) -> Printed
     ensures { Turns code.now from result out.new }
 {
     let part = listing::list(code, from, out);
-    let Listed::Part { length, next } = part else {
+    let Ok(Part { length, next }) = part else {
         return Printed {
             length: 0,
             next: from,
