@@ -3,8 +3,7 @@ ghost use Rattle.std.specs.Prelude.{◌≡◌, ◌≤◌, length};
 ghost use Rattle.readback.specs.Inner.{Cells, Named};
 ghost use Rattle.readback.specs.Lined.{Fills};
 
-use crate::line::Line;
-use crate::{Readback, fields, line, naming, numbers};
+use crate::{BadLine, fields, line, naming, numbers};
 use op::{Refusal, names};
 
 // Line 1 is the header.
@@ -18,7 +17,7 @@ fn fill(
     texts: &[u8],
     starts: &[usize],
     slots: &[u8],
-) -> Readback
+) -> Result<usize, BadLine>
     requires { (length out.old ≤ 65536) × Cells cells.old × Named texts.now starts.now slots.now }
     ensures { Fills body.now out.old result out.new }
 {
@@ -29,10 +28,10 @@ fn fill(
         let rest = &body[from..];
         let end = fields::cut(rest, b'\n');
         if rest.len() <= end {
-            return Readback::Refused {
+            return Err(BadLine {
                 refusal: Refusal::NotALine,
                 line: number,
-            };
+            });
         }
         let answer = line::read(
             &rest[..end],
@@ -44,22 +43,22 @@ fn fill(
             slots,
         );
         match answer {
-            Line::Bad(refusal) => {
-                return Readback::Refused {
+            Err(refusal) => {
+                return Err(BadLine {
                     refusal,
                     line: number,
-                };
+                });
             }
-            Line::Good(size) => at += size,
+            Ok(size) => at += size,
         }
         from = from + end + 1;
         number += 1;
     }
-    Readback::Read(at)
+    Ok(at)
 }
 
 // The same, with the tables of the names and the cells for numbers made once.
-pub fn read(body: &[u8], out: &mut [u8]) -> Readback
+pub fn read(body: &[u8], out: &mut [u8]) -> Result<usize, BadLine>
     requires { length out.old ≤ 65536 }
     ensures { Fills body.now out.old result out.new }
 {
