@@ -3,10 +3,11 @@ ghost use Rattle.std.specs.Prelude.{◌≡◌, [], ◌∷◌, ◌≤◌};
 ghost use Rattle.text.specs.Reading.{read_fields};
 ghost use Rattle.readback.specs.Operands.{and_then};
 ghost use Rattle.readback.specs.Formed.{formed, formed_row};
-ghost use Rattle.readback.specs.Inner.{Named, Cells};
+ghost use Rattle.readback.specs.Inner.{Cells};
 ghost use Rattle.readback.specs.Lined.{Tells, Storable, Stores, Lines};
 
-use crate::{fields, naming, numbers, operands, placing};
+use crate::naming::Names;
+use crate::{fields, numbers, operands, placing};
 use code::{Written, writer};
 use op::{Operand, Refusal, Shaped, shapes};
 
@@ -20,18 +21,11 @@ pub struct Told {
 }
 
 // What a name and an operand column say.
-fn instruction(
-    name: &[u8],
-    column: &[u8],
-    cells: &mut [u16],
-    texts: &[u8],
-    starts: &[usize],
-    slots: &[u8],
-) -> Option<Told>
-    requires { Cells cells.old × Named texts.now starts.now slots.now }
+fn instruction(name: &[u8], column: &[u8], cells: &mut [u16], names: &Names) -> Option<Told>
+    requires { Cells cells.old }
     ensures { Tells name.now column.now result cells.new }
 {
-    let opcode = naming::opcode(name, texts, starts, slots);
+    let opcode = names.opcode(name);
     let shaped = shapes::operand_shape(opcode);
     let Shaped::Is(shape) = shaped else {
         return None;
@@ -67,16 +61,14 @@ fn row(
     at: usize,
     out: &mut [u8],
     cells: &mut [u16],
-    texts: &[u8],
-    starts: &[usize],
-    slots: &[u8],
+    names: &Names,
 ) -> Result<usize, Refusal>
-    requires { (at ≤ 65536) × Cells cells.old × Named texts.now starts.now slots.now }
+    requires { (at ≤ 65536) × Cells cells.old }
     ensures { Lines at
         (and_then (read_fields (offset.now ∷ name.now ∷ column.now ∷ target.now ∷ []))
         formed_row) out.old result out.new }
 {
-    let Some(told) = instruction(name, column, cells, texts, starts, slots) else {
+    let Some(told) = instruction(name, column, cells, names) else {
         return Err(Refusal::NotALine);
     };
     placing::verdict_on(
@@ -97,11 +89,9 @@ pub fn read(
     at: usize,
     out: &mut [u8],
     cells: &mut [u16],
-    texts: &[u8],
-    starts: &[usize],
-    slots: &[u8],
+    names: &Names,
 ) -> Result<usize, Refusal>
-    requires { (at ≤ 65536) × Cells cells.old × Named texts.now starts.now slots.now }
+    requires { (at ≤ 65536) × Cells cells.old }
     ensures { Lines at (formed t.now) out.old result out.new }
 {
     let a = fields::cut(t, b'\t');
@@ -130,8 +120,6 @@ pub fn read(
         at,
         out,
         cells,
-        texts,
-        starts,
-        slots,
+        names,
     )
 }

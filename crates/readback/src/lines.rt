@@ -1,8 +1,9 @@
 // The lines behind the header, one by one.
 ghost use Rattle.std.specs.Prelude.{◌≡◌, ◌≤◌, length};
-ghost use Rattle.readback.specs.Inner.{Cells, Named};
+ghost use Rattle.readback.specs.Inner.{Cells};
 ghost use Rattle.readback.specs.Lined.{Fills};
 
+use crate::naming::Names;
 use crate::{BadLine, fields, line, naming, numbers};
 use op::{Refusal, names};
 
@@ -10,15 +11,8 @@ use op::{Refusal, names};
 const FIRST: usize = 2;
 
 // The bytes of all lines at the front of `out`, or the first bad line.
-fn fill(
-    body: &[u8],
-    out: &mut [u8],
-    cells: &mut [u16],
-    texts: &[u8],
-    starts: &[usize],
-    slots: &[u8],
-) -> Result<usize, BadLine>
-    requires { (length out.old ≤ 65536) × Cells cells.old × Named texts.now starts.now slots.now }
+fn fill(body: &[u8], out: &mut [u8], cells: &mut [u16], names: &Names) -> Result<usize, BadLine>
+    requires { (length out.old ≤ 65536) × Cells cells.old }
     ensures { Fills body.now out.old result out.new }
 {
     let mut from = 0;
@@ -33,15 +27,7 @@ fn fill(
                 line: number,
             });
         }
-        let answer = line::read(
-            &rest[..end],
-            at,
-            &mut out[at..],
-            cells,
-            texts,
-            starts,
-            slots,
-        );
+        let answer = line::read(&rest[..end], at, &mut out[at..], cells, names);
         match answer {
             Err(refusal) => {
                 return Err(BadLine {
@@ -65,6 +51,11 @@ pub fn read(body: &[u8], out: &mut [u8]) -> Result<usize, BadLine>
     let texts = names::text();
     let starts = names::starts();
     let slots = naming::slots(&texts, &starts);
+    let names = Names {
+        texts: &texts,
+        starts: &starts,
+        slots: &slots,
+    };
     let mut cells = [0u16; numbers::MOST];
-    fill(body, out, &mut cells, &texts, &starts, &slots)
+    fill(body, out, &mut cells, &names)
 }

@@ -42,14 +42,24 @@ pub fn slots(texts: &[u8], starts: &[usize]) -> [u8; 512]
     slots
 }
 
-// The opcode that a text names, or one past the last.
-pub fn opcode(t: &[u8], texts: &[u8], starts: &[usize], slots: &[u8]) -> u8
-    requires { Named texts.now starts.now slots.now }
-    ensures { result ≡ opcode_of t.now }
-{
-    let k = slots[slot(t)];
-    if fields::same(names::of_opcode(k, texts, starts), t) {
-        return k;
+// The opcodes' names, made once for all lines, and the opcode of each slot.
+#[derive(Clone, Copy)]
+pub struct Names<'a> {
+    pub texts: &'a [u8],
+    pub starts: &'a [usize],
+    pub slots: &'a [u8],
+    ghost named: { Named texts.now starts.now slots.now },
+}
+
+impl<'a> Names<'a> {
+    // The opcode that a text names, or one past the last.
+    pub fn opcode(&self, t: &[u8]) -> u8
+        ensures { result ≡ opcode_of t.now }
+    {
+        let k = self.slots[slot(t)];
+        if fields::same(names::of_opcode(k, self.texts, self.starts), t) {
+            return k;
+        }
+        NONE
     }
-    NONE
 }

@@ -44,14 +44,14 @@ slice_bounds-of_shape-end c =
     let cells = c.read.new.cells in
     let spelt = subst (λ (r : Maybe Numbers). Spells c.args.column.now r cells) c.in_ok-numbers.was
     c.read.ensures in
-    omega (arith, spelt.0, c.requires.0)
+    omega (arith, spelt.0, c.requires)
 
 pub slice_bounds-of_shape-end-2 : goal.slice_bounds-of_shape-end-2
 slice_bounds-of_shape-end-2 c =
     let cells = c.read.new.cells in
     let spelt = subst (λ (r : Maybe Numbers). Spells c.args.column.now r cells) c.in_ok-numbers.was
     c.read.ensures in
-    sym (length-take-le c.in_ok-numbers.numbers.count cells (omega (arith, spelt.0, c.requires.0)))
+    sym (length-take-le c.in_ok-numbers.numbers.count cells (omega (arith, spelt.0, c.requires)))
 
 pub returns-in_err-spoken : goal.returns-in_err-spoken
 returns-in_err-spoken c =
@@ -86,7 +86,7 @@ returns c =
     let spoken = spoken_some s minus (take count cells) operand from
     (sym c.in_ok-spoken.was ∙ c.of_shape.ensures) in
     let held : length (take count cells) ≡ count = length-take-le count cells
-    (omega (arith, spelt.0, c.requires.0)) in
+    (omega (arith, spelt.0, c.requires)) in
     let ordered : from ≤ count = omega (arith, spoken.0) in
     record {
       opcode = c.opcode-opcode.ensures;

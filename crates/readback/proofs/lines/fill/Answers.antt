@@ -44,7 +44,6 @@ pub read-answer-requires : goal.read-answer-requires
 read-answer-requires c = (
   omega (arith, c.loop-from.invariant.0.fits, c.requires.0),
   omega (arith, c.loop-from.invariant.1, c.requires.1),
-  c.requires.2,
 )
 
 pub shape_of-out-in-Err : goal.shape_of-out-in-Err
