@@ -11,7 +11,7 @@ ghost use Rattle.api.specs.Typed.{read_answer};
 
 use checker::Assignment;
 use op::{After, Compared, Effect, Refusal};
-use readback::Readback;
+use readback::BadLine;
 
 // A refusal's answer.
 pub fn refused(refusal: Refusal) -> u64
@@ -68,14 +68,12 @@ fn low(n: usize) -> u64
 }
 
 // The answer of reading a listing: where it is refused, the line stands below the number.
-pub fn of_readback(readback: Readback) -> u64
+pub fn of_readback(readback: Result<usize, BadLine>) -> u64
     ensures { result ≡ read_answer readback }
 {
     match readback {
-        Readback::Read(size) => size as u64,
-        Readback::Refused { refusal, line } => {
-            op::refusals::number(refusal) as u64 * 0x1_0000_0000 + low(line)
-        }
+        Ok(size) => size as u64,
+        Err(bad) => op::refusals::number(bad.refusal) as u64 * 0x1_0000_0000 + low(bad.line),
     }
 }
 

@@ -3,20 +3,21 @@ ghost use Rattle.api.specs.Listings.{part_told};
 ghost use Rattle.api.specs.Told.{Tells};
 
 use crate::{answers, cells};
-use text::Listed;
+use op::Refusal;
+use text::Part;
 
 // Tells a part's length and the cursor behind it; nothing where no line is left.
-pub fn tell_part(listed: Listed, out: &mut [u64]) -> u64
+pub fn tell_part(listed: Result<Part, Refusal>, out: &mut [u64]) -> u64
     ensures { Tells (part_told listed) out.old result out.new }
 {
     match listed {
-        Listed::Part { length, next } => {
-            if 0 < length {
-                let given = [length as u64, next as u64];
+        Ok(part) => {
+            if 0 < part.length {
+                let given = [part.length as u64, part.next as u64];
                 return cells::tell(&given, out);
             }
             0
         }
-        Listed::Refused(refusal) => answers::refused(refusal),
+        Err(refusal) => answers::refused(refusal),
     }
 }

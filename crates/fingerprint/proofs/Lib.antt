@@ -1,4 +1,3 @@
-pub mod Wrapping
 pub mod Hashing
 pub mod Tabled
 pub mod Computed

@@ -15,20 +15,16 @@ const OFFSET_BASIS: u64 = 0xcbf2_9ce4_8422_2325;
 
 const PRIME: u64 = 0x0100_0000_01b3;
 
-// The product modulo 2^64. Of the four products of half words the one of the upper halves is a multiple of 2^64, and of those
-// of an upper and a lower half only the lower halves count. In this order of sums the compiler finds one multiplication in it.
+// The product modulo 2^64.
+#[tactic(auto, unfolding(crate::specs::Fnv::wrapped))]
 pub fn wrapping_mul(a: u64, b: u64) -> u64
     ensures { result ≡ wrapped a b }
 {
-    let a_low = a & 0xffff_ffff;
-    let a_high = a >> 32;
-    let b_low = b & 0xffff_ffff;
-    let b_high = b >> 32;
-    let by_low = std::num::wrapping_add_u64(a_low * b_low, (a_high * b_low) << 32);
-    std::num::wrapping_add_u64(by_low, (a_low * b_high) << 32)
+    a.wrapping_mul(b)
 }
 
 // The hash with one byte more.
+#[tactic(auto, unfolding(crate::specs::Fnv::mixed))]
 fn mix(hash: u64, byte: u8) -> u64
     ensures { result ≡ mixed hash byte }
 {
@@ -36,19 +32,19 @@ fn mix(hash: u64, byte: u8) -> u64
 }
 
 // The hash with more bytes.
+#[tactic(auto, using(crate::proofs::Hashing::hash_step, crate::proofs::Hashing::hash_end))]
 fn hash_on(hash: u64, bytes: &[u8]) -> u64
     ensures { result ≡ hash_from hash bytes.now }
 {
     let mut h = hash;
-    let mut i = 0;
-    while i < bytes.len() {
-        h = mix(h, bytes[i]);
-        i += 1;
+    for byte in bytes {
+        h = mix(h, *byte);
     }
     h
 }
 
 // 64-bit FNV-1a of any bytes.
+#[tactic(auto, unfolding(crate::specs::Fnv::fnv1a_of))]
 pub fn fnv1a(bytes: &[u8]) -> u64
     ensures { result ≡ fnv1a_of bytes.now }
 {
@@ -56,6 +52,7 @@ pub fn fnv1a(bytes: &[u8]) -> u64
 }
 
 // The hash with what the table has of an opcode: its byte, its name in the lent text, a zero byte, its shape's number.
+#[tactic(auto, using(crate::proofs::Tabled::hash_parts))]
 fn opcode_on(hash: u64, opcode: u8, texts: &[u8], starts: &[usize]) -> u64
     ensures { result ≡ hash_from hash (bytes_by opcode (name_by texts.now starts.now opcode) (shape_no opcode)) }
 {
@@ -71,10 +68,8 @@ pub fn opcode_fingerprint() -> u64
     let texts = names::text();
     let starts = names::starts();
     let mut hash = OFFSET_BASIS;
-    let mut opcode = 0;
-    while opcode <= opcodes::LAST {
+    for opcode in 0..=opcodes::LAST {
         hash = opcode_on(hash, opcode, &texts, &starts);
-        opcode += 1;
     }
     hash
 }

@@ -2,21 +2,12 @@
 // writes each part.
 #![tactic(auto)]
 
-ghost use Rattle.std.specs.Prelude.{◌≡◌, true, List, [], ◌≤◌, length, take};
+ghost use Rattle.std.specs.Prelude.{◌≡◌, List, [], ◌≤◌, length, take, IfSome};
 ghost use Rattle.text.specs.Lines.{plain_lines};
 ghost use Rattle.listing.specs.Printing.{Turns};
 
 use std::io::Read;
-use text::{Listed, listing};
-
-// A part that was printed: its length, the cursor behind it, whether there may be more, and whether nothing went wrong.
-#[derive(Clone, Copy)]
-struct Printed {
-    length: usize,
-    next: usize,
-    more: bool,
-    fine: bool,
-}
+use text::{Part, listing};
 
 // One byte more than is listed, so that longer input is seen.
 fn input() -> [u8; 65537]
@@ -49,49 +40,34 @@ fn read_full(from: &mut impl Read, bytes: &mut [u8]) -> usize
     done
 }
 
-// The next part, at the front of the text, and written from there.
-fn turn(rt: &impl Print, code: &[u8], from: usize, out: &mut [u8]) -> Printed
-    ensures { Turns code.now from result out.new }
+// The next part, at the front of the text, and written from there. There is none where the output is closed.
+fn turn(rt: &impl Print, code: &[u8], from: usize, out: &mut [u8]) -> Option<Part>
+    ensures { IfSome result (λ part. Turns code.now from part out.new) }
 {
-    let part = listing::list(code, from, out);
-    let Listed::Part { length, next } = part else {
-        return Printed {
-            length: 0,
-            next: from,
-            more: false,
-            fine: false,
-        };
-    };
-    let fine = rt.write_all(&out[..length]).is_ok();
-    Printed {
-        length,
-        next,
-        more: fine & (0 < length),
-        fine,
-    }
+    let part = listing::list(code, from, out).ok()?;
+    rt.write_all(&out[..part.length]).ok()?;
+    Some(part)
 }
 
-// The listing of the first `size` bytes. A closed output is the end.
-fn print(rt: &impl Print, bytes: &[u8], size: usize, out: &mut [u8]) -> Printed
+// The listing of the first `size` bytes: the cursor behind its last line. A closed output is the end.
+fn print(rt: &impl Print, bytes: &[u8], size: usize, out: &mut [u8]) -> Option<usize>
     requires { size ≤ length bytes.now }
-    ensures { result.fine ≡ true → plain_lines (take size bytes.now) result.next ≡ [] }
+    ensures { IfSome result (λ next. plain_lines (take size bytes.now) next ≡ []) }
 {
     let code = &bytes[..size];
-    let mut p = Printed {
-        length: 0,
-        next: 0,
-        more: true,
-        fine: true,
-    };
-    while p.more {
-        p = turn(rt, code, p.next, out);
+    let mut next = 0;
+    loop {
+        let part = turn(rt, code, next, out)?;
+        next = part.next;
+        if part.length == 0 {
+            return Some(next);
+        }
     }
-    p
 }
 
 fn main(rt: HostRuntime) {
     let mut bytes = input();
     let size = read_full(&mut rt.stdin(), &mut bytes);
     let mut out = room();
-    print(&rt, &bytes, size, &mut out);
+    let _ = print(&rt, &bytes, size, &mut out);
 }

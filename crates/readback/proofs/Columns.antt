@@ -1,5 +1,7 @@
 -- The numbers of a column, read one behind the other into cells, and columns that no shape has.
 -- Assumes nothing.
+use Rattle.readback.specs.declared.numbers.Small.TheVariants as Z
+use Rattle.std.specs.Prelude.{Some, None}
 use mathlib.Core.Path.{◌≡◌, refl, sym, ap, ◌∙◌, subst}
 use mathlib.Core.Bool.{Bool, true, false, cond}
 use mathlib.Core.List.{List, [], ◌∷◌, ◌++◌, append-nil}
@@ -20,10 +22,8 @@ use Rattle.text.specs.Parts.{split}
 use Rattle.text.specs.Reading.{same, read_whole, both, read_all, read_operands}
 use Rattle.text.specs.Row.{wholes, dash}
 use Rattle.readback.specs.Operands.{and_then, operand_for}
-use Rattle.readback.specs.Inner.{cut_at, whole, sign_first, small_of, Cells, before, behind_comma, Column, Begun}
+use Rattle.readback.specs.Inner.{numbers_of, cut_at, whole, sign_first, small_of, Cells, before, behind_comma, Column, Begun}
 use Rattle.readback.specs.Inner.{Spells}
-use Rattle.readback.specs.declared.numbers.Numbers.TheVariants as N
-use Rattle.readback.specs.declared.numbers.Small.TheVariants as Z
 use Rattle.readback.proofs.Cutting.{split_cut, split_whole, cut_within}
 use Rattle.readback.proofs.Saying.{nothing}
 use Rattle.readback.proofs.Speaking.{length_signs}
@@ -54,41 +54,41 @@ plain_at_lem (pos m ∷ l) z ys p = plain_at_lem l z ys p.1
 plain_at_lem (negsuc m ∷ l) z ys p = absurd p
 
 -- a number that is no `Plus` is not plain, and one that is none of the two is not near
-not_plain : (z : ℤ) → ((w : ℕ) → small_of (some z) ≡ Z.Plus w → ⊥) → AllPlain (z ∷ []) → ⊥
+not_plain : (z : ℤ) → ((w : ℕ) → small_of (some z) ≡ Some (Z.Plus w) → ⊥) → AllPlain (z ∷ []) → ⊥
 unfolding small_of
 not_plain (pos n) h p = h n (rw (lt-ltb n 65536 p.0))
 not_plain (negsuc n) h p = p
 
-not_near : (z : ℤ) → small_of (some z) ≡ Z.Not → mag z < 65536 → ⊥
+not_near : (z : ℤ) → small_of (some z) ≡ None → mag z < 65536 → ⊥
 unfolding small_of
-not_near (pos n) e h = let q : Z.Plus n ≡ Z.Not = rw (lt-ltb n 65536 h) at e in clash cc
-not_near (negsuc n) e h = let q : Z.Minus n ≡ Z.Not = rw (lt-ltb n 65536 h) at e in clash cc
+not_near (pos n) e h = let q : Some (Z.Plus n) ≡ None = rw (lt-ltb n 65536 h) at e in clash cc
+not_near (negsuc n) e h = let q : Some (Z.Minus n) ≡ None = rw (lt-ltb n 65536 h) at e in clash cc
 
-pub small_plus : (z : Option ℤ) (w : ℕ) → small_of z ≡ Z.Plus w → z ≡ some (pos w)
+pub small_plus : (z : Option ℤ) (w : ℕ) → small_of z ≡ Some (Z.Plus w) → z ≡ some (pos w)
 unfolding small_of
 small_plus none w e = clash cc
 small_plus (some (pos n)) w e = by (ltb n 65536) e
   where
-    by : (b : Bool) → cond b (Z.Plus n) Z.Not ≡ Z.Plus w → some (pos n) ≡ some (pos w)
+    by : (b : Bool) → cond b (Some (Z.Plus n)) None ≡ Some (Z.Plus w) → some (pos n) ≡ some (pos w)
     by true e = cc
     by false e = clash cc
 small_plus (some (negsuc n)) w e = by (ltb n 65536) e
   where
-    by : (b : Bool) → cond b (Z.Minus n) Z.Not ≡ Z.Plus w → some (negsuc n) ≡ some (pos w)
+    by : (b : Bool) → cond b (Some (Z.Minus n)) None ≡ Some (Z.Plus w) → some (negsuc n) ≡ some (pos w)
     by true e = clash cc
     by false e = clash cc
 
-pub small_minus : (z : Option ℤ) (w : ℕ) → small_of z ≡ Z.Minus w → z ≡ some (negsuc w)
+pub small_minus : (z : Option ℤ) (w : ℕ) → small_of z ≡ Some (Z.Minus w) → z ≡ some (negsuc w)
 unfolding small_of
 small_minus none w e = clash cc
 small_minus (some (pos n)) w e = by (ltb n 65536) e
   where
-    by : (b : Bool) → cond b (Z.Plus n) Z.Not ≡ Z.Minus w → some (pos n) ≡ some (negsuc w)
+    by : (b : Bool) → cond b (Some (Z.Plus n)) None ≡ Some (Z.Minus w) → some (pos n) ≡ some (negsuc w)
     by true e = clash cc
     by false e = clash cc
 small_minus (some (negsuc n)) w e = by (ltb n 65536) e
   where
-    by : (b : Bool) → cond b (Z.Minus n) Z.Not ≡ Z.Minus w → some (negsuc n) ≡ some (negsuc w)
+    by : (b : Bool) → cond b (Some (Z.Minus n)) None ≡ Some (Z.Minus w) → some (negsuc n) ≡ some (negsuc w)
     by true e = cc
     by false e = clash cc
 
@@ -153,13 +153,13 @@ module _ (c : List ℕ) (at n : ℕ) (minus : Bool) (cells : List ℕ) (k : Colu
   turn h = k.read ∙ ap (λ (ps : List (List ℕ)). before (sign_first minus (take n cells)) (read_all ps)) (parts_on c at h)
 
   -- at the end
-  pub column_ends : length c ≤ at → Spells c (N.Are n minus) cells
+  pub column_ends : length c ≤ at → Spells c (Some (numbers_of n minus)) cells
   column_ends h =
       let zs = sign_first minus (take n cells) in
       (k.few, rw (k.numbers, k.read, drop_of_length-le c {i = at} h, append-nil zs))
 
   -- one number more
-  pub column_on : at < length c → (w : ℕ) → small_of (read_whole (part_at c at)) ≡ Z.Plus w → n < 258
+  pub column_on : at < length c → (w : ℕ) → small_of (read_whole (part_at c at)) ≡ Some (Z.Plus w) → n < 258
       → Column c (end_at c at) (n + 1) minus (set cells n w)
   column_on h w e l =
       let z = small_plus (read_whole (part_at c at)) w e in
@@ -180,7 +180,7 @@ module _ (c : List ℕ) (at n : ℕ) (minus : Bool) (cells : List ℕ) (k : Colu
       }
 
   -- a number that no field behind the first has
-  pub column_not : at < length c → ((w : ℕ) → small_of (read_whole (part_at c at)) ≡ Z.Plus w → ⊥) → Spells c N.Not cells
+  pub column_not : at < length c → ((w : ℕ) → small_of (read_whole (part_at c at)) ≡ Some (Z.Plus w) → ⊥) → Spells c None cells
   column_not h e =
       unread c k.numbers (sign_first minus (take n cells))
       (read_at c at) (turn h) refused
@@ -199,7 +199,7 @@ module _ (c : List ℕ) (at n : ℕ) (minus : Bool) (cells : List ℕ) (k : Colu
           (later (take n cells) b.0 b.1 (omega (arith, held, k.some)) p)
 
   -- more numbers than any operand has
-  pub column_full : at < length c → n ≡ 258 → Spells c N.Not cells
+  pub column_full : at < length c → n ≡ 258 → Spells c None cells
   column_full h e =
       unread c k.numbers (sign_first minus (take n cells))
       (read_at c at) (turn h) refused
@@ -250,7 +250,7 @@ module _ (c : List ℕ) (cells : List ℕ) (room : Cells cells) (numbers : same 
       both_before z none = refl
       both_before z (some ys) = refl
 
-  pub column_none : small_of (read_whole (take (cut_at 44 c) c)) ≡ Z.Not → Spells c N.Not cells
+  pub column_none : small_of (read_whole (take (cut_at 44 c) c)) ≡ None → Spells c None cells
   column_none e =
       unread c numbers [] (read_first c) (begins ∙ alone _) refused
     where

@@ -1,15 +1,19 @@
 -- A text is cut where its parts end, and two texts are the same byte by byte.
 -- Assumes nothing.
-use mathlib.Core.Path.{◌≡◌, refl, ap}
+use mathlib.Core.Path.{◌≡◌, refl, sym, ap, ◌∙◌}
 use mathlib.Core.Bool.{Bool, true, false, cond, ◌&&◌}
 use mathlib.Core.List.{List, [], ◌∷◌}
 use Prim.Native.Nat.{ℕ, suc, ◌+◌, ◌-◌, ◌≤◌, ◌<◌}
 use native.Mathlib.Numerals.{add-one}
 use native.Mathlib.Omega.{arith}
-use lib.Dec.{eqb}
+use lib.Dec.{eqb, ltb}
+use Rattle.std.specs.Option.{unwrap_or}
+use Rattle.std.specs.List.{position_or_len}
+use Rattle.std.specs.Cmp.Lexicographic.{pointwise}
+use Rattle.std.specs.Prelude.{nat_eq, Some, None}
 use lib.ListN.{length, get_or, take, drop, length-drop, drop_of_length-le}
 use lib.Seq.{drop-cons, drop-drop, take_all}
-use borrow.Author.Tests.{eq-eqb, ne_eqb}
+use borrow.Author.Tests.{ltb-false, eqb-true, eqb-false, eq-eqb, ne_eqb}
 use Rattle.text.specs.Parts.{cut, split}
 use Rattle.text.specs.Reading.{same}
 use Rattle.text.specs.Row.{dash}
@@ -95,3 +99,38 @@ is_dash (x ∷ []) e = by (eqb x 45)
     by true = refl
     by false = refl
 is_dash (x ∷ y ∷ t) e = absurd (omega arith)
+
+-- the library's words for both
+pub cut_is : (s : ℕ) (t : List ℕ) → position_or_len (λ (x : ℕ). nat_eq x s) t ≡ cut_at s t
+cut_is s [] = refl
+cut_is s (x ∷ t) = grind (arith, cut_is s t)
+
+pub place_is : (s : ℕ) (t : List ℕ)
+    → unwrap_or (cond (ltb (position_or_len (λ (x : ℕ). nat_eq x s) t) (length t))
+    (Some (position_or_len (λ (x : ℕ). nat_eq x s) t)) None) (length t) ≡ cut_at s t
+place_is s t = rw (cut_is s t) (by (ltb (cut_at s t) (length t)) refl)
+  where
+    by : (b : Bool) → ltb (cut_at s t) (length t) ≡ b
+        → unwrap_or (cond b (Some (cut_at s t)) None) (length t) ≡ cut_at s t
+    by true e = refl
+    by false e = omega (arith, ltb-false (cut_at s t) (length t) e, cut_within s t)
+
+pub same_is : (s t : List ℕ) → pointwise nat_eq s t ≡ same s t
+same_is [] [] = refl
+same_is [] (y ∷ t) = refl
+same_is (x ∷ s) [] = refl
+same_is (x ∷ s) (y ∷ t) = ap (λ (b : Bool). nat_eq x y && b) (same_is s t)
+
+same_heads : (x y : ℕ) → nat_eq x y ≡ eqb y x
+same_heads x y = by (eqb y x) refl
+  where
+    by : (b : Bool) → eqb y x ≡ b → eqb x y ≡ b
+    by true e = eq-eqb x y (sym (eqb-true y x e))
+    by false e = ne_eqb x y (λ z. eqb-false y x e (sym z))
+
+pub same_back : (s t : List ℕ) → pointwise nat_eq s t ≡ same t s
+same_back [] [] = refl
+same_back [] (y ∷ t) = refl
+same_back (x ∷ s) [] = refl
+same_back (x ∷ s) (y ∷ t) =
+    ap (λ (b : Bool). b && pointwise nat_eq s t) (same_heads x y) ∙ ap (λ (b : Bool). eqb y x && b) (same_back s t)

@@ -1,5 +1,6 @@
 -- A line as the code reads it: its fields, its instruction, its place, and its bytes.
 -- Assumes nothing.
+use Rattle.std.specs.Prelude.{Ok, Err, Result}
 use mathlib.Core.Path.{◌≡◌, refl, ap, ◌∙◌, subst}
 use mathlib.Core.Bool.{Bool, true, false, cond, ◌&&◌}
 use mathlib.Core.List.{List, [], ◌∷◌}
@@ -27,19 +28,16 @@ use Rattle.readback.specs.Formed.{alike, said_by, formed_row, formed, same_targe
 use Rattle.readback.specs.Formed.{judge_formed, judge_by}
 use Rattle.readback.specs.Inner.{cut_at}
 use Rattle.readback.specs.Lined.{met_if, offset_by, offset_of, reached_of, verdict_of, said_in, stored_as, Lays}
-use Rattle.readback.specs.declared.line.Line.TheVariants as L
 use Rattle.readback.specs.declared.placing.Met.TheVariants as M
-use Rattle.readback.specs.declared.placing.Verdict.{Verdict}
-use Rattle.readback.specs.declared.placing.Verdict.TheVariants as D
 use Rattle.readback.proofs.Cutting.{split_cut, split_whole, rest_is}
 use Rattle.readback.proofs.Saying.{nothing}
 use Rattle.readback.proofs.Telling.{saying}
 
 -- a line in its fields
 
-unfoldable pub judged_as : Verdict → List ℕ → ℕ → Judged
-judged_as D.Fine bytes room = stored_as bytes room
-judged_as (D.Bad r) bytes room = Bad r
+unfoldable pub judged_as : Result Unit Refusal → List ℕ → ℕ → Judged
+judged_as (Ok done) bytes room = stored_as bytes room
+judged_as (Err r) bytes room = Bad r
 
 alike_anywhere : (z : Option ℤ) (m n : ℕ) (o : Operand) → alike z (target_of m o) ≡ alike z (target_of n o)
 alike_anywhere z m n O.None = refl
@@ -95,7 +93,7 @@ module _ (at room v k : ℕ) (x : Said) where
       rw (e, alike_anywhere z v at x.operand) (by_target l z (alike z (target_of at x.operand)) refl)
 
 -- a line that is refused changes nothing
-pub lays_bad : (j : Judged) (r : Refusal) (old : List ℕ) → j ≡ Bad r → Lays j old (L.Bad r) old
+pub lays_bad : (j : Judged) (r : Refusal) (old : List ℕ) → j ≡ Bad r → Lays j old (Err r) old
 lays_bad j r old e = rw e (record { answers = refl; cells = refl })
 
 module _ (at room : ℕ) (a b c d : List ℕ) where

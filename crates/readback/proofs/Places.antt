@@ -1,5 +1,8 @@
 -- Offsets and targets as the code compares them.
 -- Assumes nothing.
+use Rattle.words.specs.declared.NumberError.TheVariants.{Not}
+use Rattle.words.specs.declared.NumberError.TheVariants.{Large}
+use Rattle.std.specs.Prelude.{Ok, Err}
 use mathlib.Core.Path.{◌≡◌, refl, sym, ap, subst}
 use mathlib.Core.Bool.{Bool, true, false, cond}
 use mathlib.Core.List.{List}
@@ -20,7 +23,6 @@ use Rattle.text.specs.Reading.{same, read_whole, present, read_target}
 use Rattle.text.specs.Row.{dash, target_of}
 use Rattle.text.proofs.Opcodes.{yes_same}
 use Rattle.words.specs.Numbers.{fitted, number_of, plus_of, minus_of, whole_of}
-use Rattle.words.specs.declared.Number.TheVariants.{Is, Large, Not}
 use Rattle.readback.specs.Formed.{same_whole}
 use Rattle.readback.specs.Inner.{whole}
 use Rattle.readback.specs.Lined.{goal_of, met_if, met_of, offset_of, reached_by, reached_of}
@@ -82,7 +84,7 @@ large_other : (n m : ℕ) → m ≤ 131100 → 18446744073709551615 < n → eqb 
 large_other n m h l = ne_eqb n m (λ e. omega arith)
 
 met_plus : (n : ℕ) (z : ℤ) → (goal_of z).size ≤ 131100 → (b : Bool) → leb n 18446744073709551615 ≡ b
-    → met_of (plus_of (cond b (Is n) Large)) (goal_of z).below (goal_of z).size ≡ met_if (same_whole (pos n) z)
+    → met_of (plus_of (cond b (Ok n) (Err Large))) (goal_of z).below (goal_of z).size ≡ met_if (same_whole (pos n) z)
 unfolding met_of plus_of
 met_plus n (pos m) h true e = refl
 met_plus n (negsuc m) h true e = refl
@@ -90,7 +92,7 @@ met_plus n (pos m) h false e = rw (large_other n m h (leb-false n 18446744073709
 met_plus n (negsuc m) h false e = refl
 
 met_minus : (n : ℕ) (z : ℤ) → (goal_of z).size ≤ 131100 → (b : Bool) → leb (suc n) 18446744073709551615 ≡ b
-    → met_of (minus_of (cond b (Is (suc n)) Large)) (goal_of z).below (goal_of z).size ≡ met_if (same_whole (negsuc n) z)
+    → met_of (minus_of (cond b (Ok (suc n)) (Err Large))) (goal_of z).below (goal_of z).size ≡ met_if (same_whole (negsuc n) z)
 unfolding met_of minus_of
 met_minus n (pos m) h true e = rw (ne_eqb (suc n) 0 (λ q. omega arith))
 met_minus n (negsuc m) h true e = rw (ne_eqb (suc n) 0 (λ q. omega arith)) (ap met_if (same_suc n m))
@@ -142,44 +144,44 @@ reached_other t e = rw e (by (read_whole t))
 -- an offset column
 
 module _ (at : ℕ) (t : List ℕ) (h : at ≤ 18446744073709551615) where
-  number_fits : (b : Bool) → natural t ≡ b → (v : ℕ) → cond b (fitted (value t)) Not ≡ Is v
+  number_fits : (b : Bool) → natural t ≡ b → (v : ℕ) → cond b (fitted (value t)) (Err Not) ≡ Ok v
       → (natural t ≡ true) × (value t ≡ v)
   unfolding fitted
   number_fits false q v e = clash cc
   number_fits true q v e = (q, by (leb (value t) 18446744073709551615) e)
     where
-      by : (b : Bool) → cond b (Is (value t)) Large ≡ Is v → value t ≡ v
+      by : (b : Bool) → cond b (Ok (value t)) (Err Large) ≡ Ok v → value t ≡ v
       by true e = cc
       by false e = clash cc
 
-  number_large : (b : Bool) → natural t ≡ b → cond b (fitted (value t)) Not ≡ Large
+  number_large : (b : Bool) → natural t ≡ b → cond b (fitted (value t)) (Err Not) ≡ (Err Large)
       → (natural t ≡ true) × (eqb (value t) at ≡ false)
   unfolding fitted
   number_large false q e = clash cc
   number_large true q e = (q, by (leb (value t) 18446744073709551615) refl e)
     where
-      by : (b : Bool) → leb (value t) 18446744073709551615 ≡ b → cond b (Is (value t)) Large ≡ Large
+      by : (b : Bool) → leb (value t) 18446744073709551615 ≡ b → cond b (Ok (value t)) (Err Large) ≡ (Err Large)
           → eqb (value t) at ≡ false
       by true p e = clash cc
       by false p e = ne_eqb (value t) at (λ z. omega (arith, leb-false (value t) 18446744073709551615 p))
 
-  number_not : (b : Bool) → natural t ≡ b → cond b (fitted (value t)) Not ≡ Not → natural t ≡ false
+  number_not : (b : Bool) → natural t ≡ b → cond b (fitted (value t)) (Err Not) ≡ (Err Not) → natural t ≡ false
   unfolding fitted
   number_not false q e = q
   number_not true q e = by (leb (value t) 18446744073709551615) e
     where
-      by : (b : Bool) → cond b (Is (value t)) Large ≡ Not → natural t ≡ false
+      by : (b : Bool) → cond b (Ok (value t)) (Err Large) ≡ (Err Not) → natural t ≡ false
       by true e = clash cc
       by false e = clash cc
 
-  pub offset_is : (v : ℕ) → number_of t ≡ Is v → met_if (eqb v at) ≡ offset_of at t
+  pub offset_is : (v : ℕ) → number_of t ≡ Ok v → met_if (eqb v at) ≡ offset_of at t
   unfolding number_of offset_of
   offset_is v e = let f = number_fits (natural t) refl v e in rw (f.0, f.1)
 
-  pub offset_large : number_of t ≡ Large → M.Elsewhere ≡ offset_of at t
+  pub offset_large : number_of t ≡ (Err Large) → M.Elsewhere ≡ offset_of at t
   unfolding number_of offset_of
   offset_large e = let f = number_large (natural t) refl e in rw (f.0, f.1)
 
-  pub offset_not : number_of t ≡ Not → M.Not ≡ offset_of at t
+  pub offset_not : number_of t ≡ (Err Not) → M.Not ≡ offset_of at t
   unfolding number_of offset_of
   offset_not e = rw (number_not (natural t) refl e)

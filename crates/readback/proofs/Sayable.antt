@@ -1,5 +1,8 @@
 -- What the numbers of every operand have in common, and numbers in 16 bits.
 -- Assumes nothing.
+use Rattle.readback.specs.declared.numbers.Small.TheVariants as Z
+use Rattle.words.specs.declared.NumberError.TheVariants.{Large}
+use Rattle.std.specs.Prelude.{Ok, Err, Some, None}
 use mathlib.Core.Path.{◌≡◌, refl, sym, ◌∙◌, subst}
 use mathlib.Core.Bool.{Bool, true, false, cond}
 use mathlib.Core.List.{List, [], ◌∷◌}
@@ -19,30 +22,28 @@ use Rattle.code.specs.Decode.{names_in}
 use Rattle.code.proofs.Ranges.{InRange}
 use Rattle.text.specs.Row.{wholes, operands_of}
 use Rattle.words.specs.Numbers.{fitted, plus_of, minus_of, whole_of}
-use Rattle.words.specs.declared.Number.TheVariants.{Is, Large}
 use Rattle.readback.specs.Operands.{Said, operand_for}
 use Rattle.readback.specs.Inner.{small_of, narrow_of}
-use Rattle.readback.specs.declared.numbers.Small.TheVariants as Z
 use Rattle.readback.proofs.Saying.{Words, said_only}
 use Rattle.readback.proofs.Speaking.{length_wholes}
 
 -- a number in 64 bits, in 16
 
-far_plus : (n : ℕ) → 65535 < n → (b : Bool) → narrow_of (plus_of (cond b (Is n) Large)) ≡ Z.Not
+far_plus : (n : ℕ) → 65535 < n → (b : Bool) → narrow_of (plus_of (cond b (Ok n) (Err Large))) ≡ None
 unfolding narrow_of plus_of
 far_plus n h true = rw (lt-leb n 65535 h)
 far_plus n h false = refl
 
-far_minus : (n : ℕ) → 65535 < n → (b : Bool) → narrow_of (minus_of (cond b (Is (suc n)) Large)) ≡ Z.Not
+far_minus : (n : ℕ) → 65535 < n → (b : Bool) → narrow_of (minus_of (cond b (Ok (suc n)) (Err Large))) ≡ None
 unfolding narrow_of minus_of
 far_minus n h true = rw (ne_eqb (suc n) 0 (λ e. omega arith), lt-leb (suc n) 65536 (omega arith))
 far_minus n h false = refl
 
-near_plus : (n : ℕ) → n ≤ 65535 → narrow_of (plus_of (fitted n)) ≡ Z.Plus n
+near_plus : (n : ℕ) → n ≤ 65535 → narrow_of (plus_of (fitted n)) ≡ Some (Z.Plus n)
 unfolding narrow_of plus_of fitted
 near_plus n h = rw (le-leb n 18446744073709551615 (omega arith), le-leb n 65535 h)
 
-near_minus : (n : ℕ) → n ≤ 65535 → narrow_of (minus_of (fitted (suc n))) ≡ Z.Minus n
+near_minus : (n : ℕ) → n ≤ 65535 → narrow_of (minus_of (fitted (suc n))) ≡ Some (Z.Minus n)
 unfolding narrow_of minus_of fitted
 near_minus n h =
     let e : suc n - 1 ≡ n = omega arith in
@@ -59,12 +60,12 @@ unfolding whole_of small_of narrow_of fitted
 narrow_is none = refl
 narrow_is (some (pos n)) = by (dec_lt 65535 n)
   where
-    by : Dec (65535 < n) → narrow_of (plus_of (fitted n)) ≡ cond (ltb n 65536) (Z.Plus n) Z.Not
+    by : Dec (65535 < n) → narrow_of (plus_of (fitted n)) ≡ cond (ltb n 65536) (Some (Z.Plus n)) None
     by (yes h) = far_plus n h (leb n 18446744073709551615) ∙ rw (le-ltb n 65536 h)
     by (no h) = near_plus n (omega arith) ∙ rw (lt-ltb n 65536 (omega arith))
 narrow_is (some (negsuc n)) = by (dec_lt 65535 n)
   where
-    by : Dec (65535 < n) → narrow_of (minus_of (fitted (suc n))) ≡ cond (ltb n 65536) (Z.Minus n) Z.Not
+    by : Dec (65535 < n) → narrow_of (minus_of (fitted (suc n))) ≡ cond (ltb n 65536) (Some (Z.Minus n)) None
     by (yes h) = far_minus n h (leb (suc n) 18446744073709551615) ∙ rw (le-ltb n 65536 h)
     by (no h) = near_minus n (omega arith) ∙ rw (lt-ltb n 65536 (omega arith))
 

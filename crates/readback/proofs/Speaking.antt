@@ -1,5 +1,8 @@
 -- The numbers that cells hold, and what they say by a shape, as the code finds it.
 -- Assumes nothing.
+use Rattle.std.specs.Prelude.{Option as Maybe}
+use Rattle.readback.specs.declared.operands.Spoken.{Spoken}
+use Rattle.std.specs.Prelude.{Some, None}
 use mathlib.Core.Path.{◌≡◌, refl, ap, ◌∙◌}
 use mathlib.Core.Bool.{Bool, true, false, cond, not, ◌&&◌}
 use mathlib.Core.List.{List, [], ◌∷◌}
@@ -23,10 +26,8 @@ use Rattle.text.specs.Reading.{only_if}
 use Rattle.text.specs.Row.{wholes}
 use Rattle.readback.specs.Operands.{Said, said, and_then, first, plain_in, plain_at, signed_at, ends, named}
 use Rattle.readback.specs.Operands.{operand_for}
-use Rattle.readback.specs.Inner.{whole, sign_first, number_of, spoken_of, spoken_by, told_of, told_by}
+use Rattle.readback.specs.Inner.{spoken_with, whole, sign_first, number_of, spoken_of, spoken_by, told_of, told_by}
 use Rattle.readback.specs.declared.operands.Number.{Number}
-use Rattle.readback.specs.declared.operands.Spoken.{Spoken}
-use Rattle.readback.specs.declared.operands.Spoken.TheVariants as K
 use Rattle.readback.proofs.Saying.{Words, words_back}
 
 -- cells as whole numbers
@@ -128,31 +129,31 @@ module _ (minus : Bool) (ms : List ℕ) (i : ℕ) where
 
 -- fields one after the other: what they say, if each number fits
 
-both : (t u : Bool) (r : Spoken) → cond t (cond u r K.Not) K.Not ≡ cond (t && u) r K.Not
+both : (t u : Bool) (r : Maybe Spoken) → cond t (cond u r None) None ≡ cond (t && u) r None
 both true u r = refl
 both false u r = refl
 
 module _ (count : ℕ) where
-  held : {A : Type 0} (t : Bool) (x : A) (f : A → Option Said) {r : Spoken} → (t ≡ true → spoken_of count (f x) ≡ r)
-      → spoken_of count (and_then (only_if t x) f) ≡ cond t r K.Not
+  held : {A : Type 0} (t : Bool) (x : A) (f : A → Option Said) {r : Maybe Spoken} → (t ≡ true → spoken_of count (f x) ≡ r)
+      → spoken_of count (and_then (only_if t x) f) ≡ cond t r None
   unfolding and_then spoken_of
   held true x f k = k refl
   held false x f k = refl
 
-  one : {A : Type 0} {o : Option A} {t : Bool} {x : A} {r : Spoken} → Field o t x → (f : A → Option Said)
+  one : {A : Type 0} {o : Option A} {t : Bool} {x : A} {r : Maybe Spoken} → Field o t x → (f : A → Option Said)
       → (t ≡ true → spoken_of count (f x) ≡ r)
-      → spoken_of count (and_then o f) ≡ cond t r K.Not
+      → spoken_of count (and_then o f) ≡ cond t r None
   one {t} {x} a f k = rw a.is (held t x f k)
 
-  two : {o p : Option ℕ} {t u : Bool} {x y : ℕ} {r : Spoken} → Field o t x → Field p u y → (f : ℕ → ℕ → Option Said)
+  two : {o p : Option ℕ} {t u : Bool} {x y : ℕ} {r : Maybe Spoken} → Field o t x → Field p u y → (f : ℕ → ℕ → Option Said)
       → (t ≡ true → u ≡ true → spoken_of count (f x y) ≡ r)
-      → spoken_of count (and_then o (λ a. and_then p (f a))) ≡ cond (t && u) r K.Not
+      → spoken_of count (and_then o (λ a. and_then p (f a))) ≡ cond (t && u) r None
   two {t} {u} {x} {r} a b f k = one a _ (λ s. one b (f x) (k s)) ∙ both t u r
 
-  three : {o p q : Option ℕ} {t u v : Bool} {x y z : ℕ} {r : Spoken} → Field o t x → Field p u y → Field q v z
+  three : {o p q : Option ℕ} {t u v : Bool} {x y z : ℕ} {r : Maybe Spoken} → Field o t x → Field p u y → Field q v z
       → (f : ℕ → ℕ → ℕ → Option Said)
       → (t ≡ true → u ≡ true → v ≡ true → spoken_of count (f x y z) ≡ r)
-      → spoken_of count (and_then o (λ a. and_then p (λ b. and_then q (f a b)))) ≡ cond ((t && u) && v) r K.Not
+      → spoken_of count (and_then o (λ a. and_then p (λ b. and_then q (f a b)))) ≡ cond ((t && u) && v) r None
   three {t} {u} {v} {x} {y} {r} a b d f k = two a b _ (λ s w. one d (f x y) (k s w)) ∙ both (t && u) v r
 
   -- no number behind them
@@ -162,7 +163,7 @@ module _ (count : ℕ) where
   ended places o zs l = rw l (by (eqb count places) refl)
     where
       other : eqb count places ≡ false → (b : Bool) → leb places count ≡ b
-          → K.Not ≡ cond b (cond (eqb (count - places) 0) (K.Is o places) K.Not) K.Not
+          → None ≡ cond b (cond (eqb (count - places) 0) (Some (spoken_with o places)) None) None
       other e true h =
           rw (ne_eqb (count - places) 0 (λ z. eqb-false count places e (omega (arith, leb-true places count h))))
       other e false h = refl
@@ -170,7 +171,7 @@ module _ (count : ℕ) where
       by : (b : Bool) → eqb count places ≡ b → spoken_of count (only_if b (said o [])) ≡ told_of o places 0 true count
       by true e =
           let same = eqb-true count places e in
-          rw (le-leb places count (omega arith), eq-eqb (count - places) 0 (omega arith)) (ap (K.Is o) (omega arith))
+          rw (le-leb places count (omega arith), eq-eqb (count - places) 0 (omega arith)) (ap (λ (n : ℕ). Some (spoken_with o n)) (omega arith))
       by false e = other e (leb places count) refl
 
 -- a shape without numbers
@@ -187,8 +188,8 @@ counted o minus ms i n h w =
     rw (le-leb (suc i) (length ms) h, drop_signs minus ms i, words_back names (words_drop ms (suc i) w))
     (rw (length-drop (suc i) ms) (by (eqb (length ms - suc i) n)))
   where
-    by : (b : Bool) → spoken_of (length ms) (only_if b (said o (drop (suc i) ms))) ≡ cond b (K.Is o (suc i)) K.Not
-    by true = ap (K.Is o) (omega (arith, length-drop (suc i) ms))
+    by : (b : Bool) → spoken_of (length ms) (only_if b (said o (drop (suc i) ms))) ≡ cond b (Some (spoken_with o (suc i))) None
+    by true = ap (λ (n : ℕ). Some (spoken_with o n)) (omega (arith, length-drop (suc i) ms))
     by false = refl
 
 -- a signed field alone, of so many values on each side
@@ -204,7 +205,7 @@ alone : (half : ℕ) (minus : Bool) (ms : List ℕ) (say : ℤ → Operand) (z :
 unfolding signed_at and_then spoken_of
 alone half minus [] say z h = by (ltb 0 half)
   where
-    by : (b : Bool) → K.Not ≡ cond b K.Not K.Not
+    by : (b : Bool) → ◌≡◌ {A = Maybe Spoken} None (cond b None None)
     by true = refl
     by false = refl
 alone half minus (m ∷ ms) say z h = rw (mag_whole minus m)

@@ -1,5 +1,8 @@
 -- The whole text: its code is stored where all of its lines were read, and nothing where one was refused.
 -- Assumes nothing.
+use Rattle.op.specs.declared.Refusal.{Refusal}
+use Rattle.readback.specs.declared.BadLine.{BadLine}
+use Rattle.std.specs.Prelude.{Err, Result}
 use mathlib.Core.Path.{◌≡◌, refl, sym, ap, ◌∙◌, subst}
 use mathlib.Core.Bool.{true, false}
 use mathlib.Core.List.{List}
@@ -13,13 +16,10 @@ use Rattle.text.specs.Listing.{header}
 use Rattle.text.specs.Parts.{split}
 use Rattle.text.specs.Put.{written, Places}
 use Rattle.text.specs.Reading.{same}
-use Rattle.text.specs.declared.Placed.{Placed}
 use Rattle.text.proofs.Splitting.{split_some}
 use Rattle.readback.specs.Lined.{stored_in, Fills}
-use Rattle.readback.specs.Promise.{answer_of, stored_of, Reads}
+use Rattle.readback.specs.Promise.{bad_line, answer_of, stored_of, Reads}
 use Rattle.readback.specs.Reading.{Reading, Read, Stopped, lines_from, room_of, reading}
-use Rattle.readback.specs.declared.Readback.{Readback}
-use Rattle.readback.specs.declared.Readback.TheVariants as R
 use Rattle.readback.proofs.Cutting.{rest_is}
 use Rattle.readback.proofs.Header.{header_size}
 use Rattle.readback.proofs.Inverse.{lines_fit}
@@ -38,7 +38,7 @@ answer_size (Stopped r k) = refl
 
 -- without the header
 pub reads_headless : (text old : List ℕ) → same (take (length header) text) header ≡ false
-    → Reads text old (R.Refused NotALine 1) old
+    → Reads text old (Err (bad_line NotALine 1)) old
 unfolding reading
 reads_headless text old e = record { answers = rw e; cells = rw e }
 
@@ -46,7 +46,7 @@ reads_headless text old e = record { answers = rw e; cells = rw e }
 pub body_is : (text : List ℕ) → take (length text - 28) (drop 28 text) ≡ drop (length header) text
 body_is text = rest_is text 28 ∙ ap (λ (n : ℕ). drop n text) (sym header_size)
 
-module _ (text old body space out : List ℕ) (answer : Readback) (h : same (take (length header) text) header ≡ true)
+module _ (text old body space out : List ℕ) (answer : Result ℕ BadLine) (h : same (take (length header) text) header ≡ true)
     (b : body ≡ drop (length header) text) (s : length space ≡ room_of (length old)) (f : Fills body space answer out)
   where
     abbrev Whole : Reading
@@ -73,7 +73,7 @@ module _ (text old body space out : List ℕ) (answer : Readback) (h : same (tak
       bytes_are = ap (λ (i : ℕ). take i out) size_is
           ∙ subst (λ (x : Reading). take (length (stored_of x)) out ≡ stored_of x) whole_is f.bytes
 
-      pub reads_stored : (bytes new : List ℕ) (p : Placed) → bytes ≡ take n out → Places old 0 bytes p new
+      pub reads_stored : (bytes new : List ℕ) (p : Result ℕ Refusal) → bytes ≡ take n out → Places old 0 bytes p new
           → Reads text old answer new
       unfolding written
       reads_stored bytes new p q x =

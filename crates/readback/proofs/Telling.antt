@@ -1,5 +1,6 @@
 -- An instruction by its name and its operand column, and its bytes.
 -- Assumes nothing.
+use Rattle.std.specs.Prelude.{Ok, Err, Some, None, Result}
 use mathlib.Core.Path.{◌≡◌, refl, sym, ap, ◌∙◌}
 use mathlib.Core.Bool.{Bool, true, false, cond}
 use mathlib.Core.List.{List, [], ◌∷◌}
@@ -33,19 +34,17 @@ use Rattle.code.proofs.Writing.{written_full, written_size}
 use Rattle.text.specs.Row.{wholes, operands_of}
 use Rattle.readback.specs.Operands.{Said, said, and_then, operand_for}
 use Rattle.readback.specs.Formed.{said_by, Good, Bad}
-use Rattle.readback.specs.Inner.{sign_first, spoken_of}
+use Rattle.readback.specs.declared.operands.Spoken.{Spoken}
+use Rattle.readback.specs.Inner.{spoken_with, sign_first, spoken_of}
 use Rattle.readback.specs.Lined.{said_in, stored_as, Lays, Storable}
-use Rattle.readback.specs.declared.line.Line.{Line}
-use Rattle.readback.specs.declared.line.Line.TheVariants as L
-use Rattle.readback.specs.declared.operands.Spoken.TheVariants as K
 use Rattle.readback.proofs.Saying.{nothing, got, said_only}
 use Rattle.readback.proofs.Speaking.{length_wholes, length_signs, drop_signs}
 
 -- the bytes of an instruction
 
-abbrev pub line_by : Written → Line
-line_by (Size z) = L.Good z
-line_by (Refused r) = L.Bad r
+abbrev pub line_by : Written → Result ℕ Refusal
+line_by (Size z) = Ok z
+line_by (Refused r) = Err r
 
 module _ (k : ℕ) (o : Operand) (names : List ℕ) (s : Storable k o names) where
   abbrev Bytes : List ℕ
@@ -71,7 +70,7 @@ module _ (k : ℕ) (o : Operand) (names : List ℕ) (s : Storable k o names) whe
           (sym (written_size k o (length names) room (operand_shape o) s.well.shape s.few refl s.well.count
           (length Bytes) size (omega arith)))
 
-  pub lays_store : (old out : List ℕ) (w : Written) → Writes k o names old w out → (l : Line) → l ≡ line_by w
+  pub lays_store : (old out : List ℕ) (w : Written) → Writes k o names old w out → (l : Result ℕ Refusal) → l ≡ line_by w
       → Lays (stored_as Bytes (length old)) old l out
   unfolding stored_as
   lays_store old out w x l e =
@@ -161,20 +160,28 @@ unsaid_column s zs l q e = rw (q, e)
 
 -- the operand that was answered, and its names, the last cells
 module _ (s : Shape) (minus : Bool) (ms : List ℕ) where
+  same_spoken : {s t : Spoken} → Some s ≡ Some t → s ≡ t
+  same_spoken e = cc
+
   spoken_by_lem : (y : Option Said) → operand_for s (sign_first minus ms) ≡ y → (o : Operand) (from : ℕ)
-      → K.Is o from ≡ spoken_of (length ms) y
+      → Some (spoken_with o from) ≡ spoken_of (length ms) y
       → (x : Said) × (operand_for s (sign_first minus ms) ≡ some x) × (x.operand ≡ o)
       × (from ≡ length ms - length x.names)
   unfolding spoken_of
   spoken_by_lem none q o from e = clash cc
-  spoken_by_lem (some x) q o from e = (x, q, cc, cc)
+  spoken_by_lem (some x) q o from e = (
+    x,
+    q,
+    ap (λ (s : Spoken). s.operand) (sym (same_spoken e)),
+    ap (λ (s : Spoken). s.names) (same_spoken e),
+  )
 
-  pub spoken_none : K.Not ≡ spoken_of (length ms) (operand_for s (sign_first minus ms))
+  pub spoken_none : None ≡ spoken_of (length ms) (operand_for s (sign_first minus ms))
       → operand_for s (sign_first minus ms) ≡ none
   unfolding spoken_of
   spoken_none e = by (operand_for s (sign_first minus ms)) e
     where
-      by : (y : Option Said) → K.Not ≡ spoken_of (length ms) y → y ≡ none
+      by : (y : Option Said) → None ≡ spoken_of (length ms) y → y ≡ none
       by none e = refl
       by (some x) e = clash cc
 
@@ -216,7 +223,7 @@ module _ (s : Shape) (minus : Bool) (ms : List ℕ) where
       last_names 2 ns (ap (drop 3) e) (omega (arith, ap length e, length_signs minus ms, length_wholes ns))
   names_last (O.U16U16U8 a b d) ns e c = no_names ns c
 
-  pub spoken_some : (o : Operand) (from : ℕ) → K.Is o from ≡ spoken_of (length ms) (operand_for s (sign_first minus ms))
+  pub spoken_some : (o : Operand) (from : ℕ) → Some (spoken_with o from) ≡ spoken_of (length ms) (operand_for s (sign_first minus ms))
       → (from ≤ length ms) × (operand_for s (sign_first minus ms) ≡ some (said o (drop from ms)))
   spoken_some o from e =
       let b = spoken_by_lem (operand_for s (sign_first minus ms)) refl o from e in

@@ -1,5 +1,7 @@
 -- The loop over the lines: what is read of a text is what was stored so far, and what is read of the lines left.
 -- Assumes nothing.
+use Rattle.readback.specs.Promise.{bad_line}
+use Rattle.std.specs.Prelude.{Ok, Err}
 use mathlib.Core.Path.{◌≡◌, refl, sym, ap, ◌∙◌}
 use mathlib.Core.List.{List, [], ◌∷◌, ◌++◌, append_assoc, append-nil}
 use Prim.Native.Nat.{ℕ, suc, ◌+◌, ◌-◌, ◌≤◌, ◌<◌}
@@ -19,8 +21,6 @@ use Rattle.readback.specs.Formed.{formed, Judged, Good, Bad, judge_by, judge}
 use Rattle.readback.specs.Inner.{cut_at}
 use Rattle.readback.specs.Lined.{line_of, laid, Fills}
 use Rattle.readback.specs.Reading.{Reading, Read, Stopped, onto, behind, lines_from}
-use Rattle.readback.specs.declared.Readback.TheVariants as R
-use Rattle.readback.specs.declared.line.Line.TheVariants as L
 use Rattle.readback.proofs.Cutting.{split_cut, split_whole, next_is}
 use Rattle.readback.proofs.Inverse.{lines_more}
 use Rattle.readback.proofs.Judging.{judge_only}
@@ -79,12 +79,12 @@ turned_first body out = record {
 
 -- the answer, where a line stops the reading, and where none does
 fills_stopped : (body old out : List ℕ) (r : Refusal) (k : ℕ) → lines_from 2 0 (length old) (split 10 body) ≡ Stopped r k
-    → Fills body old (R.Refused r k) out
+    → Fills body old (Err (bad_line r k)) out
 fills_stopped body old out r k e = record { answers = rw e; bytes = rw e }
 
 fills_read : (body old out : List ℕ) (at : ℕ) → at ≤ length out
     → lines_from 2 0 (length old) (split 10 body) ≡ Read (take at out)
-    → Fills body old (R.Read at) out
+    → Fills body old (Ok at) out
 fills_read body old out at h e =
     let l = length-take-le at out h in
     record { answers = rw (e, l); bytes = rw (e, l) }
@@ -96,7 +96,7 @@ module _ (body old out : List ℕ) (from k at : ℕ) (s : Turned body (length ol
   rest_size : length Rest ≡ length body - from
   rest_size = length-drop from body
 
-  pub turned_end : length body ≤ from → Fills body old (R.Read at) out
+  pub turned_end : length body ≤ from → Fills body old (Ok at) out
   turned_end h =
       fills_read body old out at (omega (arith, s.fits, s.size))
       (s.left
@@ -105,7 +105,7 @@ module _ (body old out : List ℕ) (from k at : ℕ) (s : Turned body (length ol
       ∙ ap (onto (take at out)) (ended k at (length old)) ∙ ap Read (append-nil (take at out)))
 
   pub turned_unended : (new : List ℕ) → from < length body → length Rest ≤ cut_at 10 Rest
-      → Fills body old (R.Refused NotALine k) new
+      → Fills body old (Err (bad_line NotALine k)) new
   turned_unended new h l =
       fills_stopped body old new NotALine k
       (s.left ∙ ap (onto (take at out)) (unended k at (length old) Rest (omega (arith, rest_size)) l))
@@ -123,10 +123,10 @@ module _ (body old out : List ℕ) (from k at : ℕ) (s : Turned body (length ol
         ∙ ap (λ (x : Judged). onto (take at out) (behind k x next)) is
 
     -- a line that is refused
-    pub turned_bad : (r : Refusal) (new : List ℕ) → L.Bad r ≡ line_of j → Fills body old (R.Refused r k) new
+    pub turned_bad : (r : Refusal) (new : List ℕ) → Err r ≡ line_of j → Fills body old (Err (bad_line r k)) new
     turned_bad r new e = by j refl e
       where
-        by : (x : Judged) → j ≡ x → L.Bad r ≡ line_of x → Fills body old (R.Refused r k) new
+        by : (x : Judged) → j ≡ x → Err r ≡ line_of x → Fills body old (Err (bad_line r k)) new
         by (Bad q) p e =
             let i : q ≡ r = cc in
             fills_stopped body old new r k
@@ -165,7 +165,7 @@ module _ (body old out : List ℕ) (from k at : ℕ) (s : Turned body (length ol
         let w = judge_only at (length old - at) (take (cut_at 10 Rest) Rest) bytes (is ∙ p) in
         (omega (arith, ap length w.bytes_are), w.fits)
 
-    pub turned_good : (size end : ℕ) (part : List ℕ) → L.Good size ≡ line_of j → part ≡ laid j Mid → end ≡ cut_at 10 Rest
+    pub turned_good : (size end : ℕ) (part : List ℕ) → Ok size ≡ line_of j → part ≡ laid j Mid → end ≡ cut_at 10 Rest
         → Turned body (length old) (put_mid at (length out - at) out part) (from + end + 1) (k + 1) (at + size)
     unfolding next
     turned_good size end part e c n = by j refl e c
@@ -173,7 +173,7 @@ module _ (body old out : List ℕ) (from k at : ℕ) (s : Turned body (length ol
         behind_line : (m : ℕ) → m ≡ cut_at 10 Rest → from + suc (cut_at 10 Rest) ≡ from + m + 1
         behind_line m q = omega arith
 
-        by : (x : Judged) → j ≡ x → L.Good size ≡ line_of x → part ≡ laid x Mid
+        by : (x : Judged) → j ≡ x → Ok size ≡ line_of x → part ≡ laid x Mid
             → Turned body (length old) (put_mid at (length out - at) out part) (from + end + 1) (k + 1) (at + size)
         by (Bad r) p e c = clash cc
         by (Good bytes) p e c =

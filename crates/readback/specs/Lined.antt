@@ -1,6 +1,17 @@
 -- What the functions that judge and store a line promise each other.
 -- Assumes nothing.
-use Rattle.std.specs.Prelude.{◌≡◌, Bool, true, false, cond, List, ℕ, suc, ◌-◌, ◌≤◌, leb, eqb, ℤ, pos, negsuc, length, take, drop}
+use Rattle.std.specs.Prelude.{Option as Maybe}
+use Rattle.readback.specs.declared.placing.Aim.TheVariants as A
+use Rattle.words.specs.declared.Signed.TheVariants as W
+use Rattle.readback.specs.declared.placing.Aim.{Aim}
+use Rattle.readback.specs.declared.BadLine.{BadLine}
+use Rattle.op.specs.declared.Refusal.{Refusal}
+use Rattle.readback.specs.declared.line.Told.{Told}
+use Rattle.words.specs.declared.Signed.{Signed}
+use Rattle.words.specs.declared.NumberError.TheVariants.{Not}
+use Rattle.words.specs.declared.NumberError.TheVariants.{Large}
+use Rattle.words.specs.declared.NumberError.{NumberError}
+use Rattle.std.specs.Prelude.{◌≡◌, Bool, true, false, cond, List, ℕ, suc, ◌-◌, ◌≤◌, leb, eqb, ℤ, pos, negsuc, length, take, drop, Ok, Err, Some, None, Result}
 use Rattle.std.proofs.Math.Option.{Option, none, some}
 use Rattle.op.specs.Opcodes.{known}
 use Rattle.op.specs.Shapes.{shape_of}
@@ -15,21 +26,9 @@ use Rattle.text.specs.Number.{natural, value}
 use Rattle.text.specs.Parts.{split}
 use Rattle.text.specs.Reading.{same, opcode_of, read_operands}
 use Rattle.text.specs.Row.{target_of}
-use Rattle.words.specs.declared.Signed.{Signed}
-use Rattle.words.specs.declared.Signed.TheVariants as W
-use Rattle.readback.specs.declared.line.Line.{Line}
-use Rattle.readback.specs.declared.line.Line.TheVariants as L
-use Rattle.readback.specs.declared.line.Told.{Told}
-use Rattle.readback.specs.declared.line.Told.TheVariants as T
-use Rattle.readback.specs.declared.placing.Aim.{Aim}
-use Rattle.readback.specs.declared.placing.Aim.TheVariants as A
 use Rattle.readback.specs.declared.placing.Goal.{Goal}
 use Rattle.readback.specs.declared.placing.Met.{Met}
 use Rattle.readback.specs.declared.placing.Met.TheVariants as M
-use Rattle.readback.specs.declared.placing.Verdict.{Verdict}
-use Rattle.readback.specs.declared.placing.Verdict.TheVariants as D
-use Rattle.readback.specs.declared.Readback.{Readback}
-use Rattle.readback.specs.declared.Readback.TheVariants as R
 use Rattle.readback.specs.Inner.{most_numbers}
 use Rattle.readback.specs.Operands.{Said, said, and_then}
 use Rattle.readback.specs.Formed.{Formed, Judged, Good, Bad, alike, said_by, same_whole, same_target, judge_by}
@@ -39,10 +38,10 @@ use Rattle.readback.specs.Reading.{lines_from}
 -- offsets and targets
 
 -- the displacement of a jump
-abbrev pub Aims : Operand → Aim → Type 0
-Aims o (A.On n) = o ≡ O.Offset (pos n)
-Aims o (A.Back n) = o ≡ O.Offset (negsuc n)
-Aims o A.Nowhere = (at : ℕ) → target_of at o ≡ none
+abbrev pub Aims : Operand → Maybe Aim → Type 0
+Aims o (Some (A.On n)) = o ≡ O.Offset (pos n)
+Aims o (Some (A.Back n)) = o ≡ O.Offset (negsuc n)
+Aims o None = (at : ℕ) → target_of at o ≡ none
 
 -- a whole number by its sign and its distance from zero
 abbrev pub goal_of : ℤ → Goal
@@ -54,11 +53,11 @@ abbrev pub met_if : Bool → Met
 met_if same = cond same M.Here M.Elsewhere
 
 -- a number that was read, and one by its sign and its distance from zero
-unfoldable pub met_of : Signed → Bool → ℕ → Met
-met_of (W.Plus v) below size = cond below M.Elsewhere (met_if (eqb v size))
-met_of (W.Minus v) below size = cond below (met_if (eqb v size)) M.Elsewhere
-met_of W.Large below size = M.Elsewhere
-met_of W.Not below size = M.Not
+unfoldable pub met_of : Result Signed NumberError → Bool → ℕ → Met
+met_of (Ok (W.Plus v)) below size = cond below M.Elsewhere (met_if (eqb v size))
+met_of (Ok (W.Minus v)) below size = cond below (met_if (eqb v size)) M.Elsewhere
+met_of (Err Large) below size = M.Elsewhere
+met_of (Err Not) below size = M.Not
 
 -- an offset column where `at` results, as a test and a number and as a text
 abbrev pub offset_by : (at : ℕ) (digits : Bool) (n : ℕ) → Met
@@ -77,15 +76,15 @@ reached_of none want = M.Not
 reached_of (some told) want = cond (alike told want) (met_if (same_target told want)) M.Not
 
 -- 24 where a column can't stand there, then 25 where one says another number
-abbrev pub matched_of : (target : Met) (off : Bool) → Verdict
-matched_of M.Here off = cond off (D.Bad Disagrees) D.Fine
-matched_of M.Elsewhere off = D.Bad Disagrees
-matched_of M.Not off = D.Bad NotALine
+abbrev pub matched_of : (target : Met) (off : Bool) → Result Unit Refusal
+matched_of M.Here off = cond off (Err Disagrees) (Ok tt)
+matched_of M.Elsewhere off = Err Disagrees
+matched_of M.Not off = Err NotALine
 
-abbrev pub verdict_of : (offset target : Met) → Verdict
+abbrev pub verdict_of : (offset target : Met) → Result Unit Refusal
 verdict_of M.Here target = matched_of target false
 verdict_of M.Elsewhere target = matched_of target true
-verdict_of M.Not target = D.Bad NotALine
+verdict_of M.Not target = Err NotALine
 
 -- a line
 
@@ -100,24 +99,24 @@ pub record Instructs (name column : List ℕ) (k : ℕ) (o : Operand) (from coun
   pub few : count ≤ most_numbers
   pub says : said_in (opcode_of name) (read_operands column) ≡ some (said o (take (count - from) (drop from cells)))
 
-abbrev pub Tells : (name column : List ℕ) → Told → List ℕ → Type 0
-Tells name column (T.Is k o from count) cells = Instructs name column k o from count cells
-Tells name column T.Not cells = said_in (opcode_of name) (read_operands column) ≡ none
+abbrev pub Tells : (name column : List ℕ) → Maybe Told → List ℕ → Type 0
+Tells name column (Some told) cells = Instructs name column told.opcode told.operand told.names told.count cells
+Tells name column None cells = said_in (opcode_of name) (read_operands column) ≡ none
 
 -- bytes where there is room for them, or 18
 unfoldable pub stored_as : (bytes : List ℕ) (room : ℕ) → Judged
 stored_as bytes room = cond (leb (length bytes) room) (Good bytes) (Bad (Full Code))
 
 -- what is answered of a line, and what becomes of the room from its offset on
-abbrev pub line_of : Judged → Line
-line_of (Good bytes) = L.Good (length bytes)
-line_of (Bad r) = L.Bad r
+abbrev pub line_of : Judged → Result ℕ Refusal
+line_of (Good bytes) = Ok (length bytes)
+line_of (Bad r) = Err r
 
 abbrev pub laid : Judged → List ℕ → List ℕ
 laid (Good bytes) out = front bytes out
 laid (Bad r) out = out
 
-pub record Lays (j : Judged) (old : List ℕ) (answer : Line) (out : List ℕ) : Type 0 where
+pub record Lays (j : Judged) (old : List ℕ) (answer : Result ℕ Refusal) (out : List ℕ) : Type 0 where
   pub answers : answer ≡ line_of j
   pub cells : out ≡ laid j old
 
@@ -126,22 +125,22 @@ pub record Storable (k : ℕ) (o : Operand) (names : List ℕ) : Type 0 where
   pub well : WellFormed k o names
   pub few : length names ≤ 255
 
-abbrev pub Stores : (k : ℕ) (o : Operand) (names old : List ℕ) (answer : Line) (out : List ℕ) → Type 0
+abbrev pub Stores : (k : ℕ) (o : Operand) (names old : List ℕ) (answer : Result ℕ Refusal) (out : List ℕ) → Type 0
 Stores k o names old answer out = Lays (stored_as (encode k o names) (length old)) old answer out
 
 -- a line that is formed, or not
-abbrev pub Lines : (at : ℕ) → Option Formed → (old : List ℕ) (answer : Line) (out : List ℕ) → Type 0
+abbrev pub Lines : (at : ℕ) → Option Formed → (old : List ℕ) (answer : Result ℕ Refusal) (out : List ℕ) → Type 0
 Lines at f old answer out = Lays (judge_by at (length old) f) old answer out
 
 -- all lines
 
 -- how many bytes an answer stores: none after a refusal
-abbrev pub stored_in : Readback → ℕ
-stored_in (R.Read n) = n
-stored_in (R.Refused r k) = 0
+abbrev pub stored_in : Result ℕ BadLine → ℕ
+stored_in (Ok n) = n
+stored_in (Err bad) = 0
 
 -- the answer for the lines behind the header, and their bytes at the front of the room
-pub record Fills (body old : List ℕ) (answer : Readback) (out : List ℕ) : Type 0 where
+pub record Fills (body old : List ℕ) (answer : Result ℕ BadLine) (out : List ℕ) : Type 0 where
   pub answers : answer ≡ answer_of (lines_from 2 0 (length old) (split 10 body))
   pub bytes : take (length (stored_of (lines_from 2 0 (length old) (split 10 body)))) out
       ≡ stored_of (lines_from 2 0 (length old) (split 10 body))

@@ -1,19 +1,22 @@
 -- What reading a listing promises: the answer, every lent cell, and that it is the listing's inverse (R71, R72).
 -- Assumes nothing.
-use Rattle.std.specs.Prelude.{◌≡◌, List, [], ℕ, ◌<◌, ◌≤◌, length, get_or}
+use Rattle.op.specs.declared.Refusal.{Refusal}
+use Rattle.readback.specs.declared.BadLine.{BadLine}
+use Rattle.std.specs.Prelude.{◌≡◌, List, [], ℕ, ◌<◌, ◌≤◌, length, get_or, Ok, Err, Result}
 use Rattle.std.proofs.Math.Option.{none}
 use Rattle.std.proofs.lemmas.List.Edits.{sets}
 use Rattle.op.specs.Opcodes.{last_opcode}
 use Rattle.code.specs.Reading.{instructions_in}
 use Rattle.text.specs.Listing.{listing_of, most}
 use Rattle.readback.specs.Reading.{Reading, Read, Stopped, reading}
-use Rattle.readback.specs.declared.Readback.{Readback}
-use Rattle.readback.specs.declared.Readback.TheVariants as R
+
+abbrev pub bad_line : Refusal → ℕ → BadLine
+bad_line r k = record { refusal = r; line = k }
 
 -- the code's length, or the refusal and its line
-abbrev pub answer_of : Reading → Readback
-answer_of (Read code) = R.Read (length code)
-answer_of (Stopped r k) = R.Refused r k
+abbrev pub answer_of : Reading → Result ℕ BadLine
+answer_of (Read code) = Ok (length code)
+answer_of (Stopped r k) = Err (bad_line r k)
 
 -- the bytes that are stored: none after a refusal
 abbrev pub stored_of : Reading → List ℕ
@@ -21,7 +24,7 @@ stored_of (Read code) = code
 stored_of (Stopped r k) = []
 
 -- the answer, and every lent cell (R71)
-pub record Reads (text old : List ℕ) (answer : Readback) (out : List ℕ) : Type 0 where
+pub record Reads (text old : List ℕ) (answer : Result ℕ BadLine) (out : List ℕ) : Type 0 where
   pub answers : answer ≡ answer_of (reading (length old) text)
   pub cells : out ≡ sets old 0 (stored_of (reading (length old) text))
 

@@ -8,39 +8,19 @@ ghost use Rattle.readback.specs.Inner.{cut_at};
 pub fn cut(t: &[u8], b: u8) -> usize
     ensures { result ≡ cut_at b t.now }
 {
-    let mut i = 0;
-    while i < t.len() {
-        if t[i] == b {
-            return i;
-        }
-        i += 1;
-    }
-    i
+    t.iter().position(|c| *c == b).unwrap_or(t.len())
 }
 
 // Whether two texts are the same.
 pub fn same(s: &[u8], t: &[u8]) -> bool
     ensures { result ≡ same_text s.now t.now }
 {
-    if s.len() != t.len() {
-        return false;
-    }
-    let mut i = 0;
-    while i < s.len() {
-        if s[i] != t[i] {
-            return false;
-        }
-        i += 1;
-    }
-    true
+    s == t
 }
 
 // Whether a field is `-`.
 pub fn is_dash(t: &[u8]) -> bool
     ensures { result ≡ same_text t.now dash }
 {
-    if t.len() != 1 {
-        return false;
-    }
-    t[0] == b'-'
+    same(t, b"-")
 }

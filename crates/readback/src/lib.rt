@@ -1,7 +1,7 @@
 // A listing typed back in: the code whose listing a text is.
 #![tactic(auto)]
 
-ghost use Rattle.std.specs.Prelude.{◌≡◌, min, length, take};
+ghost use Rattle.std.specs.Prelude.{◌≡◌, length, take};
 ghost use Rattle.text.specs.Listing.{header};
 ghost use Rattle.text.specs.Reading.{same as same_text};
 ghost use Rattle.readback.specs.Lined.{stored_in};
@@ -23,16 +23,11 @@ const MOST: usize = 65536;
 
 const HEADER: [u8; 28] = *b"offset\tname\toperands\ttarget\n";
 
-// What became of a text: how many bytes its code has, or the first bad line and why it is one.
+// The first bad line of a text, counted from 1, and why it is one: 24, 25 or 18.
 #[derive(Clone, Copy)]
-pub enum Readback {
-    Read(usize),
-    Refused {
-        // 24, 25 or 18
-        refusal: Refusal,
-        // counted from 1
-        line: usize,
-    },
+pub struct BadLine {
+    pub refusal: Refusal,
+    pub line: usize,
 }
 
 // Room for the bytes until all lines are read, so that a refusal leaves the lent code as it was.
@@ -42,53 +37,34 @@ fn space() -> [u8; 65536]
     [0u8; 65536]
 }
 
-fn least(a: usize, b: usize) -> usize
-    ensures { result ≡ min a b }
-{
-    if a < b {
-        return a;
-    }
-    b
-}
-
 // Whether a text begins with a listing's header.
 fn headed(text: &[u8]) -> bool
     ensures { result ≡ same_text (take (length header) text.now) header }
 {
-    if text.len() < 28 {
-        return false;
-    }
-    let first = HEADER;
-    fields::same(&text[..28], &first)
+    text.starts_with(&HEADER)
 }
 
 // How many bytes an answer stores: none after a refusal.
-fn stored(answer: Readback) -> usize
+fn stored(answer: Result<usize, BadLine>) -> usize
     ensures { result ≡ stored_in answer }
 {
-    match answer {
-        Readback::Read(size) => size,
-        Readback::Refused {
-            refusal: _,
-            line: _,
-        } => 0,
-    }
+    answer.unwrap_or(0)
 }
 
 // Reads a listing's text and stores its code at the front of the lent slice: 24 a line that is not formed as a listing
 // forms one, 25 an offset or a target that disagrees, 18 no room in the slice or in 65,536 bytes, each with its line. A
 // refusal changes no cell, and no cell behind the code is ever changed.
-pub fn read_listing(text: &[u8], code: &mut [u8]) -> Readback
+pub fn read_listing(text: &[u8], code: &mut [u8]) -> Result<usize, BadLine>
     ensures { Reads text.now code.old result code.new }
 {
     if !headed(text) {
-        return Readback::Refused {
+        return Err(BadLine {
             refusal: Refusal::NotALine,
             line: 1,
-        };
+        });
     }
     let mut bytes = space();
-    let room = least(code.len(), MOST);
+    let room = code.len().min(MOST);
     let answer = lines::read(&text[28..], &mut bytes[..room]);
     let size = stored(answer);
     let _ = put::bytes(&bytes[..size], code, 0);

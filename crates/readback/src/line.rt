@@ -3,77 +3,52 @@ ghost use Rattle.std.specs.Prelude.{◌≡◌, [], ◌∷◌, ◌≤◌};
 ghost use Rattle.text.specs.Reading.{read_fields};
 ghost use Rattle.readback.specs.Operands.{and_then};
 ghost use Rattle.readback.specs.Formed.{formed, formed_row};
-ghost use Rattle.readback.specs.Inner.{Named, Cells};
+ghost use Rattle.readback.specs.Inner.{Cells};
 ghost use Rattle.readback.specs.Lined.{Tells, Storable, Stores, Lines};
 
-use crate::numbers::Numbers;
-use crate::operands::Spoken;
-use crate::placing::Verdict;
-use crate::{fields, naming, numbers, operands, placing};
+use crate::naming::Names;
+use crate::{fields, numbers, operands, placing};
 use code::{Written, writer};
 use op::{Operand, Refusal, Shaped, shapes};
 
-// How many bytes a line's instruction has, or why it has none.
-#[derive(Clone, Copy)]
-pub enum Line {
-    Good(usize),
-    Bad(Refusal),
-}
-
 // An instruction, whose keyword names stand in the cells from `names` to `count`.
 #[derive(Clone, Copy)]
-pub enum Told {
-    Is {
-        opcode: u8,
-        operand: Operand,
-        names: usize,
-        count: usize,
-    },
-    Not,
+pub struct Told {
+    pub opcode: u8,
+    pub operand: Operand,
+    pub names: usize,
+    pub count: usize,
 }
 
 // What a name and an operand column say.
-fn instruction(
-    name: &[u8],
-    column: &[u8],
-    cells: &mut [u16],
-    texts: &[u8],
-    starts: &[usize],
-    slots: &[u8],
-) -> Told
-    requires { Cells cells.old × Named texts.now starts.now slots.now }
+fn instruction(name: &[u8], column: &[u8], cells: &mut [u16], names: &Names) -> Option<Told>
+    requires { Cells cells.old }
     ensures { Tells name.now column.now result cells.new }
 {
-    let opcode = naming::opcode(name, texts, starts, slots);
+    let opcode = names.opcode(name);
     let shaped = shapes::operand_shape(opcode);
     let Shaped::Is(shape) = shaped else {
-        return Told::Not;
+        return None;
     };
-    let read = numbers::read(column, cells);
-    let Numbers::Are { count, minus } = read else {
-        return Told::Not;
-    };
-    let spoken = operands::of_shape(shape, minus, &cells[..count]);
-    let Spoken::Is { operand, names } = spoken else {
-        return Told::Not;
-    };
-    Told::Is {
+    let numbers = numbers::read(column, cells)?;
+    let spoken = operands::of_shape(shape, numbers.minus, &cells[..numbers.count])?;
+    Some(Told {
         opcode,
-        operand,
-        names,
-        count,
-    }
+        operand: spoken.operand,
+        names: spoken.names,
+        count: numbers.count,
+    })
 }
 
 // The bytes of an instruction that is well formed, or 18.
-fn store(out: &mut [u8], opcode: u8, operand: Operand, names: &[u16]) -> Line
+fn store(out: &mut [u8], opcode: u8, operand: Operand, names: &[u16]) -> Result<usize, Refusal>
     requires { Storable opcode operand names.now }
     ensures { Stores opcode operand names.now out.old result out.new }
 {
     let written = writer::write(out, opcode, operand, names);
     match written {
-        Written::Size(size) => Line::Good(size),
-        Written::Refused(refusal) => Line::Bad(refusal),
+        Written::Size(size) => Ok(size),
+        Written::Refused(refusal) => Err(refusal),
     }
 }
 
@@ -86,33 +61,26 @@ fn row(
     at: usize,
     out: &mut [u8],
     cells: &mut [u16],
-    texts: &[u8],
-    starts: &[usize],
-    slots: &[u8],
-) -> Line
-    requires { (at ≤ 65536) × Cells cells.old × Named texts.now starts.now slots.now }
+    names: &Names,
+) -> Result<usize, Refusal>
+    requires { (at ≤ 65536) × Cells cells.old }
     ensures { Lines at
         (and_then (read_fields (offset.now ∷ name.now ∷ column.now ∷ target.now ∷ []))
         formed_row) out.old result out.new }
 {
-    let told = instruction(name, column, cells, texts, starts, slots);
-    let Told::Is {
-        opcode,
-        operand,
-        names,
-        count,
-    } = told
-    else {
-        return Line::Bad(Refusal::NotALine);
+    let Some(told) = instruction(name, column, cells, names) else {
+        return Err(Refusal::NotALine);
     };
-    let verdict = placing::verdict_on(
+    placing::verdict_on(
         placing::offset(offset, at),
-        placing::target(target, at, operand),
-    );
-    match verdict {
-        Verdict::Fine => store(out, opcode, operand, &cells[names..count]),
-        Verdict::Bad(refusal) => Line::Bad(refusal),
-    }
+        placing::target(target, at, told.operand),
+    )?;
+    store(
+        out,
+        told.opcode,
+        told.operand,
+        &cells[told.names..told.count],
+    )
 }
 
 // A line without its end, at an offset. `out` is the room from there on.
@@ -121,30 +89,28 @@ pub fn read(
     at: usize,
     out: &mut [u8],
     cells: &mut [u16],
-    texts: &[u8],
-    starts: &[usize],
-    slots: &[u8],
-) -> Line
-    requires { (at ≤ 65536) × Cells cells.old × Named texts.now starts.now slots.now }
+    names: &Names,
+) -> Result<usize, Refusal>
+    requires { (at ≤ 65536) × Cells cells.old }
     ensures { Lines at (formed t.now) out.old result out.new }
 {
     let a = fields::cut(t, b'\t');
     if t.len() <= a {
-        return Line::Bad(Refusal::NotALine);
+        return Err(Refusal::NotALine);
     }
     let from_name = &t[a + 1..];
     let b = fields::cut(from_name, b'\t');
     if from_name.len() <= b {
-        return Line::Bad(Refusal::NotALine);
+        return Err(Refusal::NotALine);
     }
     let from_column = &from_name[b + 1..];
     let c = fields::cut(from_column, b'\t');
     if from_column.len() <= c {
-        return Line::Bad(Refusal::NotALine);
+        return Err(Refusal::NotALine);
     }
     let target = &from_column[c + 1..];
     if fields::cut(target, b'\t') < target.len() {
-        return Line::Bad(Refusal::NotALine);
+        return Err(Refusal::NotALine);
     }
     row(
         &t[..a],
@@ -154,8 +120,6 @@ pub fn read(
         at,
         out,
         cells,
-        texts,
-        starts,
-        slots,
+        names,
     )
 }

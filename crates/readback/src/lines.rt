@@ -1,25 +1,18 @@
 // The lines behind the header, one by one.
 ghost use Rattle.std.specs.Prelude.{◌≡◌, ◌≤◌, length};
-ghost use Rattle.readback.specs.Inner.{Cells, Named};
+ghost use Rattle.readback.specs.Inner.{Cells};
 ghost use Rattle.readback.specs.Lined.{Fills};
 
-use crate::line::Line;
-use crate::{Readback, fields, line, naming, numbers};
+use crate::naming::Names;
+use crate::{BadLine, fields, line, naming, numbers};
 use op::{Refusal, names};
 
 // Line 1 is the header.
 const FIRST: usize = 2;
 
 // The bytes of all lines at the front of `out`, or the first bad line.
-fn fill(
-    body: &[u8],
-    out: &mut [u8],
-    cells: &mut [u16],
-    texts: &[u8],
-    starts: &[usize],
-    slots: &[u8],
-) -> Readback
-    requires { (length out.old ≤ 65536) × Cells cells.old × Named texts.now starts.now slots.now }
+fn fill(body: &[u8], out: &mut [u8], cells: &mut [u16], names: &Names) -> Result<usize, BadLine>
+    requires { (length out.old ≤ 65536) × Cells cells.old }
     ensures { Fills body.now out.old result out.new }
 {
     let mut from = 0;
@@ -29,43 +22,40 @@ fn fill(
         let rest = &body[from..];
         let end = fields::cut(rest, b'\n');
         if rest.len() <= end {
-            return Readback::Refused {
+            return Err(BadLine {
                 refusal: Refusal::NotALine,
                 line: number,
-            };
+            });
         }
-        let answer = line::read(
-            &rest[..end],
-            at,
-            &mut out[at..],
-            cells,
-            texts,
-            starts,
-            slots,
-        );
+        let answer = line::read(&rest[..end], at, &mut out[at..], cells, names);
         match answer {
-            Line::Bad(refusal) => {
-                return Readback::Refused {
+            Err(refusal) => {
+                return Err(BadLine {
                     refusal,
                     line: number,
-                };
+                });
             }
-            Line::Good(size) => at += size,
+            Ok(size) => at += size,
         }
         from = from + end + 1;
         number += 1;
     }
-    Readback::Read(at)
+    Ok(at)
 }
 
 // The same, with the tables of the names and the cells for numbers made once.
-pub fn read(body: &[u8], out: &mut [u8]) -> Readback
+pub fn read(body: &[u8], out: &mut [u8]) -> Result<usize, BadLine>
     requires { length out.old ≤ 65536 }
     ensures { Fills body.now out.old result out.new }
 {
     let texts = names::text();
     let starts = names::starts();
     let slots = naming::slots(&texts, &starts);
+    let names = Names {
+        texts: &texts,
+        starts: &starts,
+        slots: &slots,
+    };
     let mut cells = [0u16; numbers::MOST];
-    fill(body, out, &mut cells, &texts, &starts, &slots)
+    fill(body, out, &mut cells, &names)
 }

@@ -15,20 +15,7 @@ const NONE: u8 = 131;
 fn letter(t: &[u8], i: usize) -> usize
     ensures { (result ≡ get_or t.now i 0) × (result ≤ 255) }
 {
-    if i < t.len() {
-        return t[i] as usize;
-    }
-    0
-}
-
-// A place so many in front of the end, or 0.
-fn back(end: usize, n: usize) -> usize
-    ensures { result ≡ end - n }
-{
-    if end < n {
-        return 0;
-    }
-    end - n
+    usize::from(t.get(i).copied().unwrap_or(0))
 }
 
 // The slot of a name.
@@ -36,9 +23,9 @@ fn slot(t: &[u8]) -> usize
     ensures { result ≡ slot_of t.now }
 {
     let n = t.len();
-    let ends = 174 * letter(t, back(n, 1))
-        + 157 * letter(t, back(n, 2))
-        + 167 * letter(t, back(n, 6));
+    let ends = 174 * letter(t, n.saturating_sub(1))
+        + 157 * letter(t, n.saturating_sub(2))
+        + 167 * letter(t, n.saturating_sub(6));
     (108 * (n % 64) + 98 * letter(t, 0) + ends) % 512
 }
 
@@ -48,23 +35,31 @@ pub fn slots(texts: &[u8], starts: &[usize]) -> [u8; 512]
     ensures { result ≡ slot_table }
 {
     let mut slots = [NONE; 512];
-    let mut opcode: u8 = 0;
-    while opcode < NONE {
+    for opcode in 0..NONE {
         let at = slot(names::of_opcode(opcode, texts, starts));
         slots[at] = opcode;
-        opcode += 1;
     }
     slots
 }
 
-// The opcode that a text names, or one past the last.
-pub fn opcode(t: &[u8], texts: &[u8], starts: &[usize], slots: &[u8]) -> u8
-    requires { Named texts.now starts.now slots.now }
-    ensures { result ≡ opcode_of t.now }
-{
-    let k = slots[slot(t)];
-    if fields::same(names::of_opcode(k, texts, starts), t) {
-        return k;
+// The opcodes' names, made once for all lines, and the opcode of each slot.
+#[derive(Clone, Copy)]
+pub struct Names<'a> {
+    pub texts: &'a [u8],
+    pub starts: &'a [usize],
+    pub slots: &'a [u8],
+    ghost named: { Named texts.now starts.now slots.now },
+}
+
+impl<'a> Names<'a> {
+    // The opcode that a text names, or one past the last.
+    pub fn opcode(&self, t: &[u8]) -> u8
+        ensures { result ≡ opcode_of t.now }
+    {
+        let k = self.slots[slot(t)];
+        if fields::same(names::of_opcode(k, self.texts, self.starts), t) {
+            return k;
+        }
+        NONE
     }
-    NONE
 }

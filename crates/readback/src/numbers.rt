@@ -4,7 +4,7 @@ ghost use Rattle.text.specs.Reading.{read_whole};
 ghost use Rattle.readback.specs.Inner.{narrow_of, small_of, Spells, Begun, Cells};
 
 use crate::fields;
-use words::Signed;
+use words::{NumberError, Signed};
 
 // How many numbers a column can have: three in front of 255 keyword names.
 pub const MOST: usize = 258;
@@ -14,44 +14,42 @@ pub const MOST: usize = 258;
 pub enum Small {
     Plus(u16),
     Minus(u16),
-    Not,
 }
 
 // The numbers of a column: the first `count` cells hold them, each from zero on; where `minus` is set the first is
 // -1 less its cell.
 #[derive(Clone, Copy)]
-pub enum Numbers {
-    Are { count: usize, minus: bool },
-    Not,
+pub struct Numbers {
+    pub count: usize,
+    pub minus: bool,
 }
 
 // A whole number in 16 bits and a sign.
-fn narrow(z: Signed) -> Small
+fn narrow(z: Result<Signed, NumberError>) -> Option<Small>
     ensures { result ≡ narrow_of z }
 {
     match z {
-        Signed::Plus(v) => {
+        Ok(Signed::Plus(v)) => {
             if 65535 < v {
-                return Small::Not;
+                return None;
             }
-            Small::Plus(v as u16)
+            Some(Small::Plus(v as u16))
         }
-        Signed::Minus(v) => {
+        Ok(Signed::Minus(v)) => {
             if 65536 < v {
-                return Small::Not;
+                return None;
             }
             if v == 0 {
-                return Small::Not;
+                return None;
             }
-            Small::Minus((v - 1) as u16)
+            Some(Small::Minus((v - 1) as u16))
         }
-        Signed::Large => Small::Not,
-        Signed::Not => Small::Not,
+        Err(_) => None,
     }
 }
 
 // What a text says as such a number.
-fn small_number(t: &[u8]) -> Small
+fn small_number(t: &[u8]) -> Option<Small>
     ensures { result ≡ small_of (read_whole t.now) }
 {
     narrow(words::whole(t))
@@ -59,7 +57,7 @@ fn small_number(t: &[u8]) -> Small
 
 // The first number of a column, which ends at `end`, and those behind it: each stands behind a comma, and none has a
 // sign.
-fn from_first(c: &[u8], end: usize, minus: bool, first: u16, cells: &mut [u16]) -> Numbers
+fn from_first(c: &[u8], end: usize, minus: bool, first: u16, cells: &mut [u16]) -> Option<Numbers>
     requires { Begun c.now end minus first cells.old }
     ensures { Spells c.now result cells.new }
 {
@@ -68,37 +66,37 @@ fn from_first(c: &[u8], end: usize, minus: bool, first: u16, cells: &mut [u16]) 
     let mut n = 1;
     while at < c.len() {
         if n == MOST {
-            return Numbers::Not;
+            return None;
         }
         let rest = &c[at + 1..];
         let e = fields::cut(rest, b',');
-        let number = small_number(&rest[..e]);
+        let number = small_number(&rest[..e])?;
         let Small::Plus(w) = number else {
-            return Numbers::Not;
+            return None;
         };
         cells[n] = w;
         n += 1;
         at = at + 1 + e;
     }
-    Numbers::Are { count: n, minus }
+    Some(Numbers { count: n, minus })
 }
 
 // The numbers of a column: none of `-`, else one or more that are joined by commas.
-pub fn read(c: &[u8], cells: &mut [u16]) -> Numbers
+pub fn read(c: &[u8], cells: &mut [u16]) -> Option<Numbers>
     requires { Cells cells.old }
     ensures { Spells c.now result cells.new }
 {
     if fields::is_dash(c) {
-        return Numbers::Are {
+        return Some(Numbers {
             count: 0,
             minus: false,
-        };
+        });
     }
     let e = fields::cut(c, b',');
     let first = small_number(&c[..e]);
     match first {
-        Small::Plus(w) => from_first(c, e, false, w, cells),
-        Small::Minus(w) => from_first(c, e, true, w, cells),
-        Small::Not => Numbers::Not,
+        Some(Small::Plus(w)) => from_first(c, e, false, w, cells),
+        Some(Small::Minus(w)) => from_first(c, e, true, w, cells),
+        None => None,
     }
 }

@@ -17,9 +17,9 @@ pub struct Number {
 
 // An operand, and the cell from which on the keyword names stand, the last cells.
 #[derive(Clone, Copy)]
-pub enum Spoken {
-    Is { operand: Operand, names: usize },
-    Not,
+pub struct Spoken {
+    pub operand: Operand,
+    pub names: usize,
 }
 
 // The number at a place, or one that fits no field.
@@ -44,26 +44,34 @@ fn number_at(minus: bool, cells: &[u16], i: usize) -> Number
 }
 
 // An operand whose numbers fit their fields, if behind them stand as many names as it counts.
-fn told(operand: Operand, places: usize, names: u8, fits: bool, count: usize) -> Spoken
+fn told(operand: Operand, places: usize, names: u8, fits: bool, count: usize) -> Option<Spoken>
     ensures { result ≡ told_of operand places names fits count }
 {
     if !fits {
-        return Spoken::Not;
+        return None;
     }
     if count < places {
-        return Spoken::Not;
+        return None;
     }
     if count - places != names as usize {
-        return Spoken::Not;
+        return None;
     }
-    Spoken::Is {
+    Some(Spoken {
         operand,
         names: places,
-    }
+    })
 }
 
 // What n numbers say by a shape: the first three as they stand, and the first with its sign, as a byte and as a word.
-fn told_by(shape: Shape, a: Number, b: Number, d: Number, tiny: i8, short: i16, n: usize) -> Spoken
+fn told_by(
+    shape: Shape,
+    a: Number,
+    b: Number,
+    d: Number,
+    tiny: i8,
+    short: i16,
+    n: usize,
+) -> Option<Spoken>
     ensures { result ≡ told_by shape a b d tiny short n }
 {
     let bytes = a.fits & b.small & d.small;
@@ -108,7 +116,7 @@ fn bits_of(minus: bool, n: u16) -> u16
 }
 
 // The operand of a shape that the numbers say, with its names.
-pub fn of_shape(shape: Shape, minus: bool, cells: &[u16]) -> Spoken
+pub fn of_shape(shape: Shape, minus: bool, cells: &[u16]) -> Option<Spoken>
     ensures { result ≡ spoken_by shape minus cells.now }
 {
     // Many instructions have no operand: no number is read for them.

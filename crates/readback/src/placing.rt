@@ -9,7 +9,7 @@ ghost use Rattle.readback.specs.Lined.{verdict_of};
 use crate::fields;
 use code::signs;
 use op::{Operand, Refusal};
-use words::{Number, Signed};
+use words::{NumberError, Signed};
 
 // What a column says: the number that results, another, or nothing that can stand there.
 #[derive(Clone, Copy)]
@@ -24,7 +24,6 @@ pub enum Met {
 pub enum Aim {
     On(u16),
     Back(u16),
-    Nowhere,
 }
 
 // A whole number by its sign and its distance from zero.
@@ -34,25 +33,18 @@ pub struct Goal {
     pub size: u64,
 }
 
-// What is said of a line that is formed but for its offset and its target.
-#[derive(Clone, Copy)]
-pub enum Verdict {
-    Fine,
-    Bad(Refusal),
-}
-
 // The displacement of a jump.
-fn aim_of(operand: Operand) -> Aim
+fn aim_of(operand: Operand) -> Option<Aim>
     ensures { Aims operand result }
 {
     let Operand::Offset(x) = operand else {
-        return Aim::Nowhere;
+        return None;
     };
     let w = signs::word_of(x);
     if w < 32768 {
-        return Aim::On(w);
+        return Some(Aim::On(w));
     }
-    Aim::Back(65535 - w)
+    Some(Aim::Back(65535 - w))
 }
 
 // Where a jump at `at` goes whose displacement is `n`, or -1 - n.
@@ -81,11 +73,11 @@ fn goal_of(at: usize, minus: bool, n: u16) -> Goal
 }
 
 // Whether a number that was read is a goal.
-fn meets(told: Signed, below: bool, size: u64) -> Met
+fn meets(told: Result<Signed, NumberError>, below: bool, size: u64) -> Met
     ensures { result ≡ met_of told below size }
 {
     match told {
-        Signed::Plus(v) => {
+        Ok(Signed::Plus(v)) => {
             if below {
                 return Met::Elsewhere;
             }
@@ -94,7 +86,7 @@ fn meets(told: Signed, below: bool, size: u64) -> Met
             }
             Met::Here
         }
-        Signed::Minus(v) => {
+        Ok(Signed::Minus(v)) => {
             if !below {
                 return Met::Elsewhere;
             }
@@ -103,8 +95,8 @@ fn meets(told: Signed, below: bool, size: u64) -> Met
             }
             Met::Here
         }
-        Signed::Large => Met::Elsewhere,
-        Signed::Not => Met::Not,
+        Err(NumberError::Large) => Met::Elsewhere,
+        Err(NumberError::Not) => Met::Not,
     }
 }
 
@@ -124,9 +116,9 @@ pub fn target(t: &[u8], at: usize, operand: Operand) -> Met
 {
     let way = aim_of(operand);
     match way {
-        Aim::On(n) => jump(t, at, false, n),
-        Aim::Back(n) => jump(t, at, true, n),
-        Aim::Nowhere => {
+        Some(Aim::On(n)) => jump(t, at, false, n),
+        Some(Aim::Back(n)) => jump(t, at, true, n),
+        None => {
             if fields::is_dash(t) {
                 return Met::Here;
             }
@@ -141,40 +133,40 @@ pub fn offset(t: &[u8], at: usize) -> Met
 {
     let n = words::natural(t);
     match n {
-        Number::Is(v) => {
+        Ok(v) => {
             if v != at as u64 {
                 return Met::Elsewhere;
             }
             Met::Here
         }
-        Number::Large => Met::Elsewhere,
-        Number::Not => Met::Not,
+        Err(NumberError::Large) => Met::Elsewhere,
+        Err(NumberError::Not) => Met::Not,
     }
 }
 
 // The same with what the offset column says: 24, then 25.
-fn matched(target: Met, off: bool) -> Verdict
+fn matched(target: Met, off: bool) -> Result<(), Refusal>
     ensures { result ≡ matched_of target off }
 {
     match target {
         Met::Here => {
             if off {
-                return Verdict::Bad(Refusal::Disagrees);
+                return Err(Refusal::Disagrees);
             }
-            Verdict::Fine
+            Ok(())
         }
-        Met::Elsewhere => Verdict::Bad(Refusal::Disagrees),
-        Met::Not => Verdict::Bad(Refusal::NotALine),
+        Met::Elsewhere => Err(Refusal::Disagrees),
+        Met::Not => Err(Refusal::NotALine),
     }
 }
 
 // Both columns: 24 where one can't stand there, 25 where one says another number.
-pub fn verdict_on(offset: Met, target: Met) -> Verdict
+pub fn verdict_on(offset: Met, target: Met) -> Result<(), Refusal>
     ensures { result ≡ verdict_of offset target }
 {
     match offset {
         Met::Here => matched(target, false),
         Met::Elsewhere => matched(target, true),
-        Met::Not => Verdict::Bad(Refusal::NotALine),
+        Met::Not => Err(Refusal::NotALine),
     }
 }

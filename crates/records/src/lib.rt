@@ -3,20 +3,25 @@
 
 ghost use Rattle.std.specs.Prelude.{◌≡◌, List, [], ◌∷◌};
 ghost use Rattle.code.specs.Entries.{find_from};
+ghost use Rattle.code.specs.Entries.{contains as in_entry};
 
 use code::{ExceptionEntry, Found};
+
+#[tactic(auto, unfolding(code::specs::Lookups::covers_of))]
+fn contains(e: ExceptionEntry, offset: u32) -> bool
+    ensures { result ≡ in_entry e offset }
+{
+    e.start <= offset && offset < e.end
+}
 
 // The first entry, in insertion order, that contains the offset, with its number.
 pub fn find_exception_handler(entries: &[ExceptionEntry], offset: u32) -> Found
     ensures { result ≡ find_from entries.now offset 0 }
 {
-    let mut i: usize = 0;
-    while i < entries.len() {
-        let e = entries[i];
-        if (e.start <= offset) & (offset < e.end) {
-            return Found::Row(i, e);
+    for (i, e) in entries.iter().enumerate() {
+        if contains(*e, offset) {
+            return Found::Row(i, *e);
         }
-        i += 1;
     }
     Found::Absent
 }

@@ -1,5 +1,6 @@
 -- The parts of a listing, one behind the other, are the listing.
 -- Assumes nothing.
+use Rattle.std.specs.Prelude.{Ok, Err}
 use mathlib.Core.Path.{◌≡◌, refl, sym, ap, ◌∙◌, subst}
 use mathlib.Core.Bool.{Bool, true, false, cond}
 use mathlib.Core.List.{List, [], ◌∷◌, ◌++◌, append-nil, append_assoc}
@@ -21,13 +22,12 @@ use Rattle.code.specs.declared.Step.{Step}
 use Rattle.code.specs.declared.Step.TheVariants as S
 use Rattle.code.proofs.Decoding.{decode_end, decode_past}
 use Rattle.code.proofs.Instructions.{reads_end}
-use Rattle.text.specs.Fitting.{Line, line_to, text_of, Part, no_line, fit, said_of, listed_of, listed_in}
+use Rattle.text.specs.Fitting.{Listed, made, Line, line_to, text_of, Part, no_line, fit, said_of, listed_of, listed_in}
 use Rattle.text.specs.Joined.{Runs, ends, goes, Joins}
 use Rattle.text.specs.Lines.{column_of, end_line, end_lines, spots_then, stop_lines, read_lines, lines_from, lines_at}
 use Rattle.text.specs.Lines.{listed_code, plain_lines, checked_header, checked_lines, checked_listing_of}
 use Rattle.text.specs.Listing.{most, fault_line, first_line, spot_line, spot_lines, stop_line, line_of, lines_of}
 use Rattle.text.specs.Listing.{listing_of, rest_of}
-use Rattle.text.specs.declared.Listed.TheVariants as L
 use Rattle.text.proofs.Pieces.{from_line, from_end, from_fault, fit_line, fit_full, fit_none}
 use Rattle.text.proofs.Progressing.{column_past, end_none}
 use Rattle.text.proofs.Putting.{front_text_lem}
@@ -80,18 +80,30 @@ module _ (lines : ℕ → List Line) (follows : Follows lines) where
       (leaves (room - length l.text) l.next ls (follows cursor l ls e)) (leb (length l.text) room) refl
 
   -- what an answer says of the part
-  module _ (cursor : ℕ) (old : List ℕ) (n next : ℕ) (a : listed_of (lines cursor) cursor old ≡ L.Part n next) where
+  module _ (cursor : ℕ) (old : List ℕ) (n next : ℕ) (a : listed_of (lines cursor) cursor old ≡ made n next) where
     abbrev part : Part
     part = fit (length old) cursor (lines cursor)
 
-    said : (size : ℕ) (p : Part) → said_of size p ≡ L.Part n next → (n ≡ size) × (next ≡ p.next)
+    length_in : Listed → ℕ
+    length_in (Ok answer) = answer.length
+    length_in (Err r) = 0
+
+    next_in : Listed → ℕ
+    next_in (Ok answer) = answer.next
+    next_in (Err r) = 0
+
+    same : (size to : ℕ) → made size to ≡ made n next → (n ≡ size) × (next ≡ to)
+    unfolding length_in next_in
+    same size to e = (ap length_in (sym e), ap next_in (sym e))
+
+    said : (size : ℕ) (p : Part) → said_of size p ≡ made n next → (n ≡ size) × (next ≡ p.next)
     said size p e = by (leb 1 size) p.full e
       where
-        by : (b f : Bool) → cond b (L.Part size p.next) (cond f (L.Refused (Full Text)) (L.Part size p.next))
-            ≡ L.Part n next → (n ≡ size) × (next ≡ p.next)
-        by true f e = (cc, cc)
+        by : (b f : Bool) → cond b (made size p.next) (cond f (Err (Full Text)) (made size p.next))
+            ≡ made n next → (n ≡ size) × (next ≡ p.next)
+        by true f e = same size p.next e
         by false true e = let y : ◌≡◌ {A = ℕ} 0 1 = cc in let z : ⊥ = omega arith in absurd z
-        by false false e = (cc, cc)
+        by false false e = same size p.next e
 
     is : (n ≡ length part.text) × (next ≡ part.next)
     unfolding listed_of
@@ -113,10 +125,10 @@ module _ (lines : ℕ → List Line) (follows : Follows lines) where
     pub fits : n ≤ length old
     fits = omega (arith, is.0, (leaves (length old) cursor (lines cursor) refl).fits)
 
-    full : (size : ℕ) (p : Part) → said_of size p ≡ L.Part n next → size ≡ 0 → p.full ≡ false
+    full : (size : ℕ) (p : Part) → said_of size p ≡ made n next → size ≡ 0 → p.full ≡ false
     full size p e z = by p.full refl (sym (rw (lt-leb 1 size (omega arith))) ∙ e)
       where
-        by : (f : Bool) → p.full ≡ f → cond f (L.Refused (Full Text)) (L.Part size p.next) ≡ L.Part n next
+        by : (f : Bool) → p.full ≡ f → cond f (Err (Full Text)) (made size p.next) ≡ made n next
             → p.full ≡ false
         by true q e = let y : ◌≡◌ {A = ℕ} 0 1 = cc in let z : ⊥ = omega arith in absurd z
         by false q e = q
@@ -242,17 +254,17 @@ unfolding checked_lines
 checked_follows code depths =
     follows checked_header (take (suc (length code)) depths) code (simp length-take (omega arith))
 
-pub plain_left : (code old : List ℕ) (cursor n next : ℕ) → listed_of (plain_lines code cursor) cursor old ≡ L.Part n next
+pub plain_left : (code old : List ℕ) (cursor n next : ℕ) → listed_of (plain_lines code cursor) cursor old ≡ made n next
     → text_of (plain_lines code cursor) ≡ take n (listed_in (plain_lines code cursor) cursor old)
     ++ text_of (plain_lines code next)
 plain_left code old cursor n next a = left (plain_lines code) (plain_follows code) cursor old n next a
 
-pub plain_fits : (code old : List ℕ) (cursor n next : ℕ) → listed_of (plain_lines code cursor) cursor old ≡ L.Part n next
+pub plain_fits : (code old : List ℕ) (cursor n next : ℕ) → listed_of (plain_lines code cursor) cursor old ≡ made n next
     → n ≤ length old
 plain_fits code old cursor n next a = fits (plain_lines code) (plain_follows code) cursor old n next a
 
 -- an empty part is the end
-pub plain_all : (code old : List ℕ) (cursor n next : ℕ) → listed_of (plain_lines code cursor) cursor old ≡ L.Part n next
+pub plain_all : (code old : List ℕ) (cursor n next : ℕ) → listed_of (plain_lines code cursor) cursor old ≡ made n next
     → n ≡ 0 → plain_lines code next ≡ []
 plain_all code old cursor n next a z = all (plain_lines code) (plain_follows code) cursor old n next a z
 

@@ -2,10 +2,13 @@
 -- Assumes nothing.
 use mathlib.Core.Path.{◌≡◌, refl, sym, ap, ◌∙◌}
 use mathlib.Core.List.{List, [], ◌∷◌, ◌++◌}
-use Prim.Native.Nat.{ℕ, suc, ◌+◌, ◌-◌, ◌*◌, ◌≤◌, ◌<◌}
+use Prim.Native.Nat.{ℕ, zero, suc, ◌/◌, ◌+◌, ◌-◌, ◌*◌, ◌≤◌, ◌<◌}
 use native.Mathlib.Numerals.{add-one}
 use native.Mathlib.Omega.{arith}
-use lib.ListN.{length, get_or, drop, length-append, length-drop}
+use lib.ListN.{length, get_or, take, drop, length-append, length-drop}
+use Rattle.std.specs.Int.{from_le_bytes, w16}
+use Rattle.std.proofs.lemmas.List.{drop-drop}
+use Rattle.std.specs.Simd.{first_chunks}
 use lib.Seq.{drop-cons}
 use Rattle.code.specs.Bytes.{word_at}
 use Rattle.text.specs.Decimal.{decimal}
@@ -53,3 +56,19 @@ names_bound (a ∷ []) h = omega arith
 names_bound (a ∷ b ∷ t) h =
     omega
     (arith, length-append (decimal (a + 256 * b)) (names_text t), decimal_short 5 (a + 256 * b) (omega (arith, h 0, h 1)) (omega arith), names_bound t (λ i. h (suc (suc i))))
+
+-- the words of a text of bytes are its chunks of two
+chunk_is : (k : ℕ) (s : List ℕ) (i : ℕ) → i < k → get_or (first_chunks 2 k s) i [] ≡ take 2 (drop (2 * i) s)
+chunk_is zero s i h = let z : ⊥ = omega arith in absurd z
+chunk_is (suc k) s zero h = refl
+chunk_is (suc k) s (suc i) h =
+    let e : 2 + 2 * i ≡ 2 * suc i = omega arith in
+    chunk_is k (drop 2 s) i (omega arith) ∙ ap (take 2) (drop-drop (2 * i) 2 s) ∙ ap (λ (n : ℕ). take 2 (drop n s)) e
+
+pub word_is : (chunks : List (List ℕ)) (s : List ℕ) (i w : ℕ) → chunks ≡ first_chunks 2 (length s / 2) s
+    → i < length s / 2 → w ≡ from_le_bytes w16 (get_or chunks i []) → w ≡ word_at s (2 * i)
+word_is chunks s i w e h f =
+    let cells : get_or chunks i [] ≡ get_or s (2 * i) 0 ∷ get_or s (2 * i + 1) 0 ∷ [] =
+    ap (λ (l : List (List ℕ)). get_or l i []) e ∙ chunk_is (length s / 2) s i h
+    ∙ ap (take 2) (two_cells s (2 * i) (omega arith)) in
+    f ∙ ap (from_le_bytes w16) cells ∙ omega arith

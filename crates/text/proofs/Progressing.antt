@@ -1,5 +1,7 @@
 -- Laws of the progress of a part: what a line more says, and what is said where the lines end.
 -- Assumes nothing.
+use Rattle.text.specs.Fitting.{Listed}
+use Rattle.std.specs.Prelude.{Ok, Err, Result}
 use mathlib.Core.Path.{◌≡◌, refl, sym, ap, ◌∙◌}
 use mathlib.Core.Bool.{Bool, true, false, cond}
 use mathlib.Core.List.{List, [], ◌∷◌, ◌++◌, append-nil}
@@ -31,9 +33,6 @@ use Rattle.text.specs.Inner.{went_by, step_text, step_next, step_more, Steps, Le
 use Rattle.text.specs.Inner.{said_by, Goes}
 use Rattle.text.specs.Put.{Places, placed_of, written}
 use Rattle.text.specs.declared.lister.Progress.{Progress}
-use Rattle.text.specs.declared.Listed.{Listed}
-use Rattle.text.specs.declared.Placed.{Placed}
-use Rattle.text.specs.declared.Placed.TheVariants as P
 use Rattle.text.proofs.Pieces.{from_line, from_end, from_fault, fit_line, fit_full, fit_none, onto_onto}
 use Rattle.text.proofs.Putting.{then, sets_append}
 use Rattle.text.proofs.Lining.{line_of_lem, fault_of, end_of}
@@ -104,7 +103,7 @@ module _ (depths code : List ℕ) (at : ℕ) (old : List ℕ) (to : ℕ) (lent :
         ≡ left depths code (length old) (record { at = next; to = to + length text; more = more; full = false }))
       where
         pub by_room : (b : Bool) → leb (length text) room ≡ b
-            → Told depths code at old to (went_by (cond b (P.Behind (to + length text)) (P.Refused (Full Text))) at to
+            → Told depths code at old to (went_by (cond b (Ok (to + length text)) (Err (Full Text))) at to
             next more) (cond b (sets old to text) old)
         by_room true h = record { fills = put (leb-true (length text) room h) e; fewer = fewer more refl; next = after }
         by_room false h = record {
@@ -241,19 +240,19 @@ lists_on {depths} {code} {old} {out} {at} {answer} g =
     let zero_more : 0 + length part.text ≡ length part.text = omega arith in
     record { answers = rw e at g.answers ∙ ap (λ (n : ℕ). said_of n part) zero_more; cells = rw e at g.cells }
 
-placed_fits : (old : List ℕ) (at : ℕ) (text : List ℕ) (e : ℕ) → P.Behind e ≡ placed_of old at text
+placed_fits : (old : List ℕ) (at : ℕ) (text : List ℕ) (e : ℕ) → Ok e ≡ placed_of old at text
     → (e ≡ at + length text) × (length text ≤ length old - at)
 unfolding placed_of
 placed_fits old at text e q = by (leb (length text) (length old - at)) refl q
   where
     by : (b : Bool) → leb (length text) (length old - at) ≡ b
-        → P.Behind e ≡ cond b (P.Behind (at + length text)) (P.Refused (Full Text))
+        → Ok e ≡ cond b (Ok (at + length text)) (Err (Full Text))
         → (e ≡ at + length text) × (length text ≤ length old - at)
     by true t q = (cc, leb-true (length text) (length old - at) t)
     by false t q = let y : ◌≡◌ {A = ℕ} 0 1 = cc in let z : ⊥ = omega arith in absurd z
 
 -- the place behind a text that was placed is within
-pub placed_within : {old text out : List ℕ} {to : ℕ} → Places old 0 text (P.Behind to) out → to ≤ length out
+pub placed_within : {old text out : List ℕ} {to : ℕ} → Places old 0 text (Ok to) out → to ≤ length out
 unfolding written
 placed_within {old} {text} {out} {to} p =
     let h = placed_fits old 0 text to p.answers in
@@ -261,7 +260,7 @@ placed_within {old} {text} {out} {to} p =
     omega (arith, h, ap length m, length-sets old 0 text)
 
 pub lists_first : {first depths code old mid out : List ℕ} {to : ℕ} {answer : Listed}
-    → Places old 0 first (P.Behind to) mid → Goes depths code 0 mid to answer out
+    → Places old 0 first (Ok to) mid → Goes depths code 0 mid to answer out
     → Lists (lines_at first depths code 0) 0 old answer out
 unfolding listed_of listed_in written
 lists_first {first} {depths} {code} {old} {mid} {out} {to} {answer} p g =
@@ -293,7 +292,7 @@ module _ (code : List ℕ) (at : ℕ) (front old : List ℕ) (to : ℕ) where
         cells = rw (e, le-leb 0 (length old - to) (omega arith));
       }
 
-  pub end_placed : {p : Placed} {out : List ℕ} → 0 < length front
+  pub end_placed : {p : Result ℕ Refusal} {out : List ℕ} → 0 < length front
       → Places old to (front ++ line_text at (ascii "end") O.None (drop at code)) p out
       → Steps front code at S.End old to (went_by p at to (at + 1) false) out
   end_placed {p} {out} h q =
@@ -301,11 +300,11 @@ module _ (code : List ℕ) (at : ℕ) (front old : List ℕ) (to : ℕ) where
       let n : at + 1 ≡ suc at = omega arith in
       let t = end_of at (drop at code) in
       record {
-        answers = rw e (ap (λ (x : Placed). went_by x at to (at + 1) false) (rw t at q.answers) ∙ ap (λ (k : ℕ). went_by (placed_of old to (front ++ end_line at)) at to k false) n);
+        answers = rw e (ap (λ (x : Result ℕ Refusal). went_by x at to (at + 1) false) (rw t at q.answers) ∙ ap (λ (k : ℕ). went_by (placed_of old to (front ++ end_line at)) at to k false) n);
         cells = rw e (rw t at q.cells);
       }
 
-  pub fault_placed : {p : Placed} {out : List ℕ} (r : Refusal) → decode last_opcode at (drop at code) ≡ S.Refused r
+  pub fault_placed : {p : Result ℕ Refusal} {out : List ℕ} (r : Refusal) → decode last_opcode at (drop at code) ≡ S.Refused r
       → Places old to (fault_line at r) p out
       → Steps front code at (S.Refused r) old to (went_by p at to (length code + 1) false) out
   fault_placed {p} {out} r e q =
@@ -313,19 +312,19 @@ module _ (code : List ℕ) (at : ℕ) (front old : List ℕ) (to : ℕ) where
       let n : length code + 1 ≡ suc (at + length (drop at code)) = omega (arith, faulted at (drop at code) r e, length-drop at code) in
       record {
         answers =
-            ap (λ (x : Placed). went_by x at to (length code + 1) false) (rw t at q.answers)
+            ap (λ (x : Result ℕ Refusal). went_by x at to (length code + 1) false) (rw t at q.answers)
             ∙ ap (λ (k : ℕ). went_by (placed_of old to (line_of name_of at (drop at code))) at to k false) n;
         cells = rw t at q.cells;
       }
 
-  pub line_placed : {p : Placed} {out : List ℕ} (k : ℕ) (o : Operand) (z : ℕ)
+  pub line_placed : {p : Result ℕ Refusal} {out : List ℕ} (k : ℕ) (o : Operand) (z : ℕ)
       → decode last_opcode at (drop at code) ≡ S.Instr k o z
       → Places old to (front ++ line_text at (name_by name_text name_starts k) o (drop at code)) p out
       → Steps front code at (S.Instr k o z) old to (went_by p at to (at + z) true) out
   line_placed {p} {out} k o z e q =
       let t = sym (line_of_lem (name_by name_text name_starts) at (drop at code) k o z e) ∙ own_names at (drop at code) in
       record {
-        answers = ap (λ (x : Placed). went_by x at to (at + z) true) (rw t at q.answers);
+        answers = ap (λ (x : Result ℕ Refusal). went_by x at to (at + z) true) (rw t at q.answers);
         cells = rw t at q.cells;
       }
 

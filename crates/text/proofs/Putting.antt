@@ -1,21 +1,22 @@
 -- Laws of texts written into a slice, one behind the other.
 -- Assumes nothing.
+use Rattle.op.specs.declared.Refusal.{Refusal}
+use Rattle.std.specs.Prelude.{Ok, Err, Result}
 use mathlib.Core.Path.{◌≡◌, refl, sym, ap, ◌∙◌}
 use mathlib.Core.Bool.{Bool, true, false, cond}
 use mathlib.Core.List.{List, [], ◌∷◌, ◌++◌}
 use Prim.Native.Nat.{ℕ, suc, ◌+◌, ◌-◌, ◌≤◌, ◌<◌}
 use native.Mathlib.Nat.{add-zero}
-use native.Mathlib.Numerals.{add-one}
 use native.Mathlib.Omega.{arith}
 use lib.Dec.{leb}
-use lib.ListN.{length, set, take, drop, get_or, length-append}
-use lib.Seq.{sets, sets-eq, take-suc, take_at, length-take-le, length-sets}
+use lib.ListN.{length, set, take, drop, length-append}
+use borrow.Rule.Slice.PartMut.{put_mid}
+use Rattle.std.proofs.lemmas.Slice.{put_mid-paste}
+use lib.Seq.{sets, sets-eq, take_all, take_at, length-sets}
 use borrow.Author.Tests.{le-leb, lt-leb}
 use Rattle.op.specs.declared.Refusal.TheVariants.{Full}
 use Rattle.op.specs.declared.Table.TheVariants.{Text}
 use Rattle.text.specs.Put.{Put, Places, placed_of, written}
-use Rattle.text.specs.declared.Placed.{Placed}
-use Rattle.text.specs.declared.Placed.TheVariants.{Behind, Refused}
 
 -- two texts, one behind the other
 pub sets_append : (d : List ℕ) (at : ℕ) (a b : List ℕ) → sets d at (a ++ b) ≡ sets (sets d at a) (at + length a) b
@@ -78,15 +79,6 @@ pub part_fits : {old out text : List ℕ} {at o : ℕ} (a b : List ℕ) → Left
     → length text ≤ length old - at → length a ≤ length out - o
 part_fits a b l h = omega (arith, length-append a b, rest_fits l h)
 
--- one more byte of s
-pub sets_more : (d : List ℕ) (at : ℕ) (s : List ℕ) (j : ℕ) → j < length s → set (sets d at (take j s)) (at + j) (get_or s j 0) ≡ sets d at (take (j + 1) s)
-sets_more d at s j h =
-    sym
-    (ap (λ (k : ℕ). sets d at (take k s)) (add-one j)
-    ∙ ap (λ (l : List ℕ). sets d at l) (take-suc s j 0 h)
-    ∙ sets_append d at (take j s) (get_or s j 0 ∷ [])
-    ∙ ap (λ (k : ℕ). set (sets d at (take j s)) (at + k) (get_or s j 0)) (length-take-le j s (omega arith)))
-
 -- a text that was written from the front on is read there
 pub front_text_lem : {old text out : List ℕ} {e : ℕ} → Put old 0 text e out → length text ≤ length old → take e out ≡ text
 front_text_lem {old} {text} {out} {e} p h =
@@ -95,28 +87,54 @@ front_text_lem {old} {text} {out} {e} p h =
 
 -- a text that fits is placed, and one that does not is refused
 pub places : {old text out : List ℕ} {at e : ℕ} → length text ≤ length old - at → Put old at text e out
-    → Places old at text (Behind e) out
+    → Places old at text (Ok e) out
 unfolding placed_of written
 places {old} {text} {out} {at} {e} h p =
     let t = le-leb (length text) (length old - at) h in
-    record { answers = rw t (ap Behind p.next_is); cells = rw t p.out_is }
+    record { answers = rw t (ap Ok p.next_is); cells = rw t p.out_is }
 
 pub refuses : (old : List ℕ) (at : ℕ) (text : List ℕ) → length old - at < length text
-    → Places old at text (Refused (Full Text)) old
+    → Places old at text (Err (Full Text)) old
 unfolding placed_of written
 refuses old at text h = let t = lt-leb (length text) (length old - at) h in record { answers = rw t; cells = rw t }
 
 -- the same of an equal text
-pub same_places : {old text text' out : List ℕ} {at : ℕ} {p : Placed} → text ≡ text' → Places old at text p out
+pub same_places : {old text text' out : List ℕ} {at : ℕ} {p : Result ℕ Refusal} → text ≡ text' → Places old at text p out
     → Places old at text' p out
 same_places {old} {text} {text'} {out} {at} {p} e h = rw e at h
 
 -- the place that is answered is the one behind the text
-pub placed_place : (old : List ℕ) (at : ℕ) (text : List ℕ) (e : ℕ) → Behind e ≡ placed_of old at text
+pub placed_place : (old : List ℕ) (at : ℕ) (text : List ℕ) (e : ℕ) → Ok e ≡ placed_of old at text
     → e ≡ at + length text
 unfolding placed_of
 placed_place old at text e q = by (leb (length text) (length old - at)) q
   where
-    by : (b : Bool) → Behind e ≡ cond b (Behind (at + length text)) (Refused (Full Text)) → e ≡ at + length text
+    by : (b : Bool) → Ok e ≡ cond b (Ok (at + length text)) (Err (Full Text)) → e ≡ at + length text
+    by true q = cc
+    by false q = cc
+
+-- no text, at any place
+pub put_none : (out src : List ℕ) (at : ℕ) → length src ≡ 0 → Put out at src at out
+put_none out [] at h = record { next_is = omega arith; out_is = refl }
+put_none out (x ∷ src) at h = let z : ⊥ = omega arith in absurd z
+
+-- a text copied into the cells from a place on
+pub copied : (old src new : List ℕ) (at k : ℕ) → at + length src ≤ length old → k ≡ length src → new ≡ src
+    → Put old at src (at + length src) (put_mid at k old new)
+copied old src new at k h e f =
+    record {
+      next_is = refl;
+      out_is =
+          put_mid-paste at k old new src (length src) f (sym e) refl
+          ∙ ap (λ (s : List ℕ). take at old ++ s ++ drop (at + length src) old) (take_all (length src) src (omega arith))
+          ∙ sym (sets-eq src old at h);
+    }
+
+-- a refusal is 18
+pub refused : {old text out : List ℕ} {at : ℕ} {r : Refusal} → Places old at text (Err r) out → r ≡ Full Text
+unfolding placed_of
+refused {old} {text} {out} {at} {r} p = by (leb (length text) (length old - at)) p.answers
+  where
+    by : (b : Bool) → Err r ≡ cond b (Ok (at + length text)) (Err (Full Text)) → r ≡ Full Text
     by true q = cc
     by false q = cc

@@ -1,11 +1,18 @@
 -- A text in lines that is made part by part, in lent cells: each part has as many whole lines as there is room for. Refusal 18.
 -- Assumes nothing.
-use Rattle.std.specs.Prelude.{◌≡◌, Bool, true, false, cond, List, [], ◌∷◌, ◌++◌, ℕ, ◌-◌, leb, length}
+use Rattle.std.specs.Prelude.{◌≡◌, Bool, true, false, cond, List, [], ◌∷◌, ◌++◌, ℕ, ◌-◌, leb, length, Ok, Err, Result}
 use Rattle.std.proofs.lemmas.List.Edits.{sets}
+use Rattle.op.specs.declared.Refusal.{Refusal}
 use Rattle.op.specs.declared.Refusal.TheVariants.{Full}
 use Rattle.op.specs.declared.Table.TheVariants.{Text}
-use Rattle.text.specs.declared.Listed.{Listed}
-use Rattle.text.specs.declared.Listed.TheVariants as L
+use Rattle.text.specs.declared.Part.{Part as Answer}
+
+-- the answer of a call that makes a part: how many cells it has and the cursor behind it, or why there is none
+abbrev pub Listed : Type 0
+Listed = Result Answer Refusal
+
+abbrev pub made : ℕ → ℕ → Listed
+made length next = Ok (record { length = length; next = next })
 
 -- a line's text, and the cursor behind it, from which the lines behind it are asked for
 pub record Line : Type 0 where
@@ -43,7 +50,7 @@ fit room cursor (l ∷ ls) =
 
 -- what is answered of a part that ends behind so many cells: 18 where there is a line and no room for one
 abbrev pub said_of : ℕ → Part → Listed
-said_of length p = cond (leb 1 length) (L.Part length p.next) (cond p.full (L.Refused (Full Text)) (L.Part length p.next))
+said_of length p = cond (leb 1 length) (made length p.next) (cond p.full (Err (Full Text)) (made length p.next))
 
 -- the answer for lines, which begin at a cursor, and every lent cell
 unfoldable pub listed_of : List Line → ℕ → List ℕ → Listed

@@ -1,6 +1,8 @@
 -- What the functions that make a part of a listing promise each other.
 -- Assumes nothing.
-use Rattle.std.specs.Prelude.{◌≡◌, Bool, true, false, cond, List, [], ◌++◌, ℕ, suc, ◌+◌, ◌-◌, ◌≤◌, ◌<◌, ltb, length, drop}
+use Rattle.text.specs.Fitting.{Listed}
+use Rattle.op.specs.declared.Refusal.{Refusal}
+use Rattle.std.specs.Prelude.{◌≡◌, Bool, true, false, cond, List, [], ◌++◌, ℕ, suc, ◌+◌, ◌-◌, ◌≤◌, ◌<◌, ltb, length, drop, Ok, Err, Result}
 use Rattle.std.proofs.lemmas.List.Edits.{sets}
 use Rattle.op.specs.Names.{name_of, name_text, name_starts}
 use Rattle.op.specs.Opcodes.{last_opcode}
@@ -13,15 +15,12 @@ use Rattle.text.specs.Fitting.{Part, no_line, onto, fit, said_of}
 use Rattle.text.specs.Lines.{end_line, lines_from}
 use Rattle.text.specs.Listing.{line_of}
 use Rattle.text.specs.Put.{Put, placed_of, written}
-use Rattle.text.specs.declared.Listed.{Listed}
-use Rattle.text.specs.declared.Placed.{Placed}
-use Rattle.text.specs.declared.Placed.TheVariants as P
 use Rattle.text.specs.declared.lister.Progress.{Progress}
 
 -- behind what became of a line at an offset, which was to stand from a place on
-abbrev pub went_by : Placed → ℕ → ℕ → ℕ → Bool → Progress
-went_by (P.Behind end) at to next more = record { at = next; to = end; more = more; full = false }
-went_by (P.Refused r) at to next more = record { at = at; to = to; more = false; full = true }
+abbrev pub went_by : Result ℕ Refusal → ℕ → ℕ → ℕ → Bool → Progress
+went_by (Ok end) at to next more = record { at = next; to = end; more = more; full = false }
+went_by (Err r) at to next more = record { at = at; to = to; more = false; full = true }
 
 -- the line of a step behind a column, where it goes on, and whether there may be more
 abbrev pub step_text : List ℕ → ℕ → List ℕ → Step → List ℕ

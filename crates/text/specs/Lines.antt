@@ -2,7 +2,8 @@
 -- in front of each of its lines, and a line for the code's end. A cursor is 0 at the first line, and behind it an offset
 -- and 1.
 -- Assumes nothing.
-use Rattle.std.specs.Prelude.{◌≡◌, cond, List, [], ◌∷◌, ◌++◌, ℕ, zero, suc, ◌+◌, leb, ltb, eqb, length, take, drop, get_or}
+use Rattle.text.specs.Fitting.{Listed}
+use Rattle.std.specs.Prelude.{◌≡◌, cond, List, [], ◌∷◌, ◌++◌, ℕ, zero, suc, ◌+◌, leb, ltb, eqb, length, take, drop, get_or, Err}
 use Rattle.std.proofs.Math.Option.{Option, some, none}
 use Rattle.op.specs.Opcodes.{last_opcode}
 use Rattle.op.specs.Names.{ascii, name_of}
@@ -15,8 +16,6 @@ use Rattle.text.specs.Decimal.{decimal}
 use Rattle.text.specs.Fitting.{Line, line_to, text_of, listed_of, listed_in}
 use Rattle.text.specs.Listing.{line, most, fault_line, first_line, spot_line}
 use Rattle.text.specs.Row.{dash, row_of, fields_text}
-use Rattle.text.specs.declared.Listed.{Listed}
-use Rattle.text.specs.declared.Listed.TheVariants as L
 
 -- a cell of depths: the depth, or `-` where there is none
 abbrev pub depth_text : ℕ → List ℕ
@@ -87,7 +86,7 @@ pub record ListsChecked (code depths : List ℕ) (cursor : ℕ) (old : List ℕ)
     pub answers : answer ≡
         cond (leb (length code) code_limit)
         (cond (ltb (length code) (length depths)) (listed_of (checked_lines code depths cursor) cursor old)
-        (L.Refused ShortDepths))
-        (L.Refused TooLarge)
+        (Err ShortDepths))
+        (Err TooLarge)
     pub cells : out ≡ cond (leb (length code) code_limit)
         (cond (ltb (length code) (length depths)) (listed_in (checked_lines code depths cursor) cursor old) old) old

@@ -1,8 +1,6 @@
 // Texts in lent slices: numbers in decimal, and listings.
 #![tactic(auto)]
 
-use op::Refusal;
-
 mod lines;
 mod lister;
 pub mod listing;
@@ -10,17 +8,9 @@ pub mod put;
 mod row;
 mod write;
 
-// The place behind a text that was written, or 18.
+// A part of a listing: whole lines in the first `length` cells. The lines behind them are those from the cursor `next` on.
 #[derive(Clone, Copy)]
-pub enum Placed {
-    Behind(usize),
-    Refused(Refusal),
-}
-
-// A part of a listing.
-#[derive(Clone, Copy)]
-pub enum Listed {
-    // whole lines in the first `length` cells; the lines behind them are those from the cursor `next` on
-    Part { length: usize, next: usize },
-    Refused(Refusal),
+pub struct Part {
+    pub length: usize,
+    pub next: usize,
 }

@@ -5,7 +5,7 @@ ghost use Rattle.text.specs.Listing.{fault_line, first_line};
 ghost use Rattle.text.specs.Listing.{header as header_text};
 ghost use Rattle.text.specs.Put.{Places};
 
-use crate::{Placed, put, row, write};
+use crate::{put, row, write};
 use op::{Operand, Refusal, Table, refusals};
 
 // The most bytes that are listed where they were not checked.
@@ -15,14 +15,14 @@ pub const MOST: usize = 65536;
 const LONGEST: usize = 1600;
 
 // The header.
-fn header(out: &mut [u8], to: usize) -> Placed
+fn header(out: &mut [u8], to: usize) -> Result<usize, Refusal>
     ensures { Places out.old to header_text result out.new }
 {
     put::bytes(b"offset\tname\toperands\ttarget\n", out, to)
 }
 
 // The fault line.
-pub fn fault(at: usize, refusal: Refusal, out: &mut [u8], to: usize) -> Placed
+pub fn fault(at: usize, refusal: Refusal, out: &mut [u8], to: usize) -> Result<usize, Refusal>
     ensures { Places out.old to (fault_line at refusal) result out.new }
 {
     let mut text = [0u8; 32];
@@ -31,7 +31,7 @@ pub fn fault(at: usize, refusal: Refusal, out: &mut [u8], to: usize) -> Placed
 }
 
 // The first line of a listing of so many bytes: the header, or why there is none.
-pub fn first(size: usize, out: &mut [u8], to: usize) -> Placed
+pub fn first(size: usize, out: &mut [u8], to: usize) -> Result<usize, Refusal>
     ensures { Places out.old to (first_line size) result out.new }
 {
     if size <= MOST {
@@ -48,23 +48,29 @@ fn cells() -> [u8; 1600]
 }
 
 // Three texts, one behind the other.
-fn joined(front: &[u8], name: &[u8], back: &[u8], out: &mut [u8], to: usize) -> Placed
+fn joined(
+    front: &[u8],
+    name: &[u8],
+    back: &[u8],
+    out: &mut [u8],
+    to: usize,
+) -> Result<usize, Refusal>
     ensures { Places out.old to (front.now ++ (name.now ++ back.now)) result
         out.new }
 {
     let room = put::room(out.len(), to);
     if room < front.len() {
-        return Placed::Refused(Refusal::Full(Table::Text));
+        return Err(Refusal::Full(Table::Text));
     }
     if room - front.len() < name.len() {
-        return Placed::Refused(Refusal::Full(Table::Text));
+        return Err(Refusal::Full(Table::Text));
     }
     if room - front.len() - name.len() < back.len() {
-        return Placed::Refused(Refusal::Full(Table::Text));
+        return Err(Refusal::Full(Table::Text));
     }
     let o = write::copy(front, out, to);
     let e = write::copy(name, out, o);
-    Placed::Behind(write::copy(back, out, e))
+    Ok(write::copy(back, out, e))
 }
 
 // A line where there may be no room for it: it is made apart first.
@@ -76,7 +82,7 @@ fn tight(
     name: &[u8],
     out: &mut [u8],
     to: usize,
-) -> Placed
+) -> Result<usize, Refusal>
     requires { Lean at operand (drop at code.now) × (length front.now ≤ 11) }
     ensures { Places out.old to
         (front.now ++ line_text at name.now operand (drop at code.now)) result
@@ -99,7 +105,7 @@ pub fn line(
     name: &[u8],
     out: &mut [u8],
     to: usize,
-) -> Placed
+) -> Result<usize, Refusal>
     requires { Lean at operand (drop at code.now) × (length front.now ≤ 11) }
     ensures { Places out.old to
         (front.now ++ line_text at name.now operand (drop at code.now)) result
@@ -113,5 +119,5 @@ pub fn line(
         return tight(code, at, operand, front, name, out, to);
     }
     let o = write::copy(front, out, to);
-    Placed::Behind(row::line(code, at, operand, name, out, o))
+    Ok(row::line(code, at, operand, name, out, o))
 }

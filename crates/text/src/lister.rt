@@ -6,9 +6,9 @@ ghost use Rattle.text.specs.Lines.{depth_text, column_of};
 ghost use Rattle.text.specs.Inner.{went_by, Stepped, Steps, Lent, Told, Reading, Fills};
 ghost use Rattle.text.specs.Put.{Put};
 
-use crate::{Placed, lines, row, write};
+use crate::{lines, row, write};
 use code::{NO_DEPTH, Step};
-use op::{Operand, names};
+use op::{Operand, Refusal, names};
 use reader::InstructionReader;
 
 // How far a listing is: the offset of the next line, the end of the text so far, whether there may be more lines, and
@@ -22,17 +22,17 @@ pub struct Progress {
 }
 
 // How far it is behind what became of a line at `at`, which was to stand from `to` on.
-fn went(placed: Placed, at: usize, to: usize, next: usize, more: bool) -> Progress
+fn went(placed: Result<usize, Refusal>, at: usize, to: usize, next: usize, more: bool) -> Progress
     ensures { result ≡ went_by placed at to next more }
 {
     match placed {
-        Placed::Behind(end) => Progress {
+        Ok(end) => Progress {
             at: next,
             to: end,
             more,
             full: false,
         },
-        Placed::Refused(_) => Progress {
+        Err(_) => Progress {
             at,
             to,
             more: false,

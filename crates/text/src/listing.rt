@@ -7,32 +7,26 @@ ghost use Rattle.text.specs.Listing.{most};
 ghost use Rattle.text.specs.Inner.{Lent, Goes, said_by};
 
 use crate::lister::Progress;
-use crate::{Listed, Placed, lines, lister, put};
+use crate::{Part, lines, lister, put};
 use code::CODE_LIMIT;
 use op::{Refusal, Table, names};
 
 // What is answered where the lines end.
-fn said(p: Progress) -> Listed
+fn said(p: Progress) -> Result<Part, Refusal>
     requires { p.at < 18446744073709551615 }
     ensures { result ≡ said_by p }
 {
-    if 0 < p.to {
-        return Listed::Part {
-            length: p.to,
-            next: p.at + 1,
-        };
+    if p.full && p.to == 0 {
+        return Err(Refusal::Full(Table::Text));
     }
-    if p.full {
-        return Listed::Refused(Refusal::Full(Table::Text));
-    }
-    Listed::Part {
+    Ok(Part {
         length: p.to,
         next: p.at + 1,
-    }
+    })
 }
 
 // The lines from an offset on, behind `to` cells of text.
-fn go_on(code: &[u8], depths: &[u32], out: &mut [u8], at: usize, to: usize) -> Listed
+fn go_on(code: &[u8], depths: &[u32], out: &mut [u8], at: usize, to: usize) -> Result<Part, Refusal>
     requires { Lent code.now depths.now out.old to × (at < 18446744073709551615) }
     ensures { Goes depths.now code.now at out.old to result out.new }
 {
@@ -50,38 +44,36 @@ fn listed(size: usize) -> usize
 }
 
 // The plain listing, `listing_of`, from a cursor on.
-pub fn list(code: &[u8], from: usize, out: &mut [u8]) -> Listed
+pub fn list(code: &[u8], from: usize, out: &mut [u8]) -> Result<Part, Refusal>
     ensures { Lists (plain_lines code.now from) from out.old result out.new }
 {
     let size = listed(code.len());
-    let none = [0u32; 1];
     if from == 0 {
-        let first = lines::first(code.len(), out, 0);
-        let Placed::Behind(to) = first else {
-            return Listed::Refused(Refusal::Full(Table::Text));
-        };
-        return go_on(&code[..size], &none[..0], out, 0, to);
+        let to = lines::first(code.len(), out, 0)?;
+        return go_on(&code[..size], &[], out, 0, to);
     }
-    go_on(&code[..size], &none[..0], out, from - 1, 0)
+    go_on(&code[..size], &[], out, from - 1, 0)
 }
 
 // The listing of checked code with its depths, `checked_listing_of`, from a cursor on: 10 over 1,048,576 bytes, 21 for fewer depths than bytes and one.
-pub fn list_checked(code: &[u8], depths: &[u32], from: usize, out: &mut [u8]) -> Listed
+pub fn list_checked(
+    code: &[u8],
+    depths: &[u32],
+    from: usize,
+    out: &mut [u8],
+) -> Result<Part, Refusal>
     ensures { ListsChecked code.now depths.now from out.old result
         out.new }
 {
     if CODE_LIMIT < code.len() {
-        return Listed::Refused(Refusal::TooLarge);
+        return Err(Refusal::TooLarge);
     }
     if depths.len() <= code.len() {
-        return Listed::Refused(Refusal::ShortDepths);
+        return Err(Refusal::ShortDepths);
     }
     let cells = code.len() + 1;
     if from == 0 {
-        let first = put::bytes(b"depth\toffset\tname\toperands\ttarget\n", out, 0);
-        let Placed::Behind(to) = first else {
-            return Listed::Refused(Refusal::Full(Table::Text));
-        };
+        let to = put::bytes(b"depth\toffset\tname\toperands\ttarget\n", out, 0)?;
         return go_on(code, &depths[..cells], out, 0, to);
     }
     go_on(code, &depths[..cells], out, from - 1, 0)

@@ -4,28 +4,28 @@ ghost use Rattle.text.specs.Decimal.{whole_text, sign_text};
 ghost use Rattle.text.specs.Decimal.{decimal as decimal_of};
 ghost use Rattle.text.specs.Put.{Places};
 
-use crate::{Placed, write};
+use crate::write;
 use op::{Refusal, Table};
 
 // How many cells there are from a place on.
 pub fn room(size: usize, at: usize) -> usize
     ensures { result ≡ size - at }
 {
-    if at < size { size - at } else { 0 }
+    size.saturating_sub(at)
 }
 
 // All of `src`.
-pub fn bytes(src: &[u8], out: &mut [u8], at: usize) -> Placed
+pub fn bytes(src: &[u8], out: &mut [u8], at: usize) -> Result<usize, Refusal>
     ensures { Places out.old at src.now result out.new }
 {
     if src.len() <= room(out.len(), at) {
-        return Placed::Behind(write::copy(src, out, at));
+        return Ok(write::copy(src, out, at));
     }
-    Placed::Refused(Refusal::Full(Table::Text))
+    Err(Refusal::Full(Table::Text))
 }
 
 // A number in decimal, behind a minus sign where it is below zero.
-fn number(below: bool, n: u64, out: &mut [u8], at: usize) -> Placed
+fn number(below: bool, n: u64, out: &mut [u8], at: usize) -> Result<usize, Refusal>
     ensures { Places out.old at (sign_text below n) result out.new }
 {
     let mut digits = [0u8; 21];
@@ -34,15 +34,15 @@ fn number(below: bool, n: u64, out: &mut [u8], at: usize) -> Placed
 }
 
 // A number in decimal.
-pub fn decimal(n: u64, out: &mut [u8], at: usize) -> Placed
+pub fn decimal(n: u64, out: &mut [u8], at: usize) -> Result<usize, Refusal>
     ensures { Places out.old at (decimal_of n) result out.new }
 {
     number(false, n, out, at)
 }
 
 // A whole number in decimal.
-pub fn signed(z: i64, out: &mut [u8], at: usize) -> Placed
+pub fn signed(z: i64, out: &mut [u8], at: usize) -> Result<usize, Refusal>
     ensures { Places out.old at (whole_text z) result out.new }
 {
-    number(z < 0, write::magnitude(z), out, at)
+    number(z < 0, z.unsigned_abs(), out, at)
 }

@@ -1,6 +1,5 @@
 // The fields of a line, and the fault line. Callers have made room; each writer answers the place behind what it wrote.
 ghost use Rattle.std.specs.Prelude.{◌≡◌, List, [], ◌∷◌, ◌++◌, ◌+◌, ◌-◌, ◌≤◌, ◌<◌, pos, ◌+ℤ◌, length, drop};
-ghost use Rattle.code.specs.Bytes.{word_at};
 ghost use Rattle.code.specs.Tables.{code_limit};
 ghost use Rattle.text.specs.Decimal.{decimal};
 ghost use Rattle.text.specs.Fields.{names_text, call_text, tail_text, operands_at, back_text, line_text, fault_text};
@@ -10,21 +9,6 @@ ghost use Rattle.text.specs.Row.{operand_column, target_column, target_of};
 use crate::write;
 use code::decoder;
 use op::Operand;
-
-// A byte as a number.
-fn wide(b: u8) -> u64
-    ensures { (result ≡ b) × (result < 256) }
-{
-    b as u64
-}
-
-// The little-endian word at `i`.
-fn word_at(names: &[u8], i: usize) -> u64
-    requires { i + 1 < length names.now }
-    ensures { result ≡ word_at names.now i }
-{
-    wide(names[i]) + 256 * wide(names[i + 1])
-}
 
 // A comma and a number.
 fn more(n: u64, out: &mut [u8], to: usize) -> usize
@@ -40,11 +24,10 @@ fn names(bytes: &[u8], out: &mut [u8], to: usize) -> usize
     requires { length (names_text bytes.now) ≤ length out.old - to }
     ensures { Put out.old to (names_text bytes.now) result out.new }
 {
-    let mut i = 0;
+    let (words, _) = bytes.as_chunks::<2>();
     let mut o = to;
-    while 2 <= bytes.len() - i {
-        o = more(word_at(bytes, i), out, o);
-        i += 2;
+    for word in words {
+        o = more(u64::from(u16::from_le_bytes(*word)), out, o);
     }
     o
 }

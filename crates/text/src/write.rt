@@ -1,5 +1,5 @@
 // Writers whose callers have made room. Each answers the place behind what it wrote.
-ghost use Rattle.std.specs.Prelude.{◌≡◌, List, [], ◌∷◌, ◌+◌, ◌-◌, ◌≤◌, ◌<◌, nat_abs, length};
+ghost use Rattle.std.specs.Prelude.{◌≡◌, List, [], ◌∷◌, ◌+◌, ◌-◌, ◌≤◌, ◌<◌, length};
 ghost use Rattle.text.specs.Decimal.{whole_text, sign_text};
 ghost use Rattle.text.specs.Decimal.{decimal as decimal_of};
 ghost use Rattle.text.specs.Put.{Put};
@@ -18,14 +18,13 @@ pub fn copy(src: &[u8], out: &mut [u8], at: usize) -> usize
     requires { length src.now ≤ length out.old - at }
     ensures { Put out.old at src.now result out.new }
 {
-    let mut j = 0;
-    let mut o = at;
-    while j < src.len() {
-        out[o] = src[j];
-        o += 1;
-        j += 1;
+    // A text of no bytes may be put at a place behind the last cell.
+    if src.is_empty() {
+        return at;
     }
-    o
+    let end = at + src.len();
+    out[at..end].copy_from_slice(src);
+    end
 }
 
 // A number in decimal.
@@ -52,20 +51,10 @@ pub fn number(below: bool, n: u64, out: &mut [u8], at: usize) -> usize
     decimal(n, out, at)
 }
 
-// A number without its sign.
-pub fn magnitude(z: i64) -> u64
-    ensures { result ≡ nat_abs z }
-{
-    if z < 0 {
-        return (-(z + 1)) as u64 + 1;
-    }
-    z as u64
-}
-
 // A whole number in decimal.
 pub fn signed(z: i64, out: &mut [u8], at: usize) -> usize
     requires { length (whole_text z) ≤ length out.old - at }
     ensures { Put out.old at (whole_text z) result out.new }
 {
-    number(z < 0, magnitude(z), out, at)
+    number(z < 0, z.unsigned_abs(), out, at)
 }

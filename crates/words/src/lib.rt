@@ -2,157 +2,105 @@
 // requires anything.
 #![tactic(auto)]
 
-ghost use Rattle.std.specs.Prelude.{◌+◌, ◌-◌, ◌*◌, leb, ◌≡◌};
+ghost use Rattle.std.specs.Prelude.{◌+◌, ◌-◌, ◌*◌, ◌^◌, ◌<◌, ◌≡◌, SomeIff};
 ghost use Rattle.base.specs.Tests.{all};
 ghost use Rattle.text.specs.Number.{value};
 ghost use Rattle.text.specs.Number.{digit as digit_byte, natural as natural_text};
 ghost use Rattle.text.specs.Reading.{read_whole};
 ghost use Rattle.words.specs.Numbers.{fitted, number_of, plus_of, minus_of, whole_of};
 
-// A natural number in decimal, with no zero in front.
+// Why a text is no number in decimal of 64 bits.
 #[derive(Clone, Copy)]
-pub enum Number {
-    Is(u64),
-    // one, but not below 2^64
+pub enum NumberError {
+    // a number, but its magnitude is not below 2^64
     Large,
     Not,
 }
 
-// A whole number in decimal: a minus sign stands in front of one below zero, and there is no -0.
+// A whole number in decimal by its magnitude: a minus sign stands in front of one below zero, and there is no -0.
 #[derive(Clone, Copy)]
 pub enum Signed {
     Plus(u64),
     Minus(u64),
-    // one, but its magnitude is not below 2^64
-    Large,
-    Not,
 }
 
-fn wide(x: u8) -> u64
-    ensures { result ≡ x }
+// A number with a digit more behind it, where that is below 2^64.
+fn with_digit(v: u64, c: u8) -> Option<u64>
+    ensures { SomeIff result (v * 10 + (c - 48) < 2 ^ 64) (v * 10 + (c - 48)) }
 {
-    x as u64
-}
-
-// What a digit counts.
-fn worth(c: u8) -> u8
-    ensures { result ≡ c - 48 }
-{
-    if c < 48 {
-        return 0;
-    }
-    c - 48
-}
-
-// Whether v with the digit c behind it is below 2^64.
-fn fits(v: u64, c: u8) -> bool
-    ensures { result ≡ leb (v * 10 + (c - 48)) 18446744073709551615 }
-{
-    let d = wide(worth(c));
-    if 1844674407370955161 < v {
-        return false;
-    }
-    d <= u64::MAX - v * 10
+    v.checked_mul(10)?
+        .checked_add(u64::from(c.saturating_sub(b'0')))
 }
 
 // The number that digits say.
-fn said(t: &[u8]) -> Number
+fn said(t: &[u8]) -> Result<u64, NumberError>
     ensures { result ≡ fitted (value t.now) }
 {
-    let mut v: u64 = 0;
-    let mut i: usize = 0;
-    while i < t.len() {
-        let c = t[i];
-        if !fits(v, c) {
-            return Number::Large;
-        }
-        v = v * 10 + wide(worth(c));
-        i += 1;
+    let mut v = 0;
+    for c in t {
+        v = with_digit(v, *c).ok_or(NumberError::Large)?;
     }
-    Number::Is(v)
+    Ok(v)
 }
 
 fn is_digit(c: u8) -> bool
     ensures { result ≡ digit_byte c }
 {
-    if c < 48 {
-        return false;
-    }
-    c <= 57
+    c.is_ascii_digit()
 }
 
 fn all_digits(t: &[u8]) -> bool
     ensures { result ≡ all digit_byte t.now }
 {
-    let mut i: usize = 0;
-    while i < t.len() {
-        if !is_digit(t[i]) {
-            return false;
-        }
-        i += 1;
-    }
-    true
+    t.iter().all(|c| is_digit(*c))
 }
 
 fn is_natural(t: &[u8]) -> bool
     ensures { result ≡ natural_text t.now }
 {
-    if t.len() == 0 {
-        return false;
+    match t {
+        [] => false,
+        [c] => is_digit(*c),
+        [b'0', ..] => false,
+        _ => all_digits(t),
     }
-    if t.len() == 1 {
-        return is_digit(t[0]);
-    }
-    if t[0] == 48 {
-        return false;
-    }
-    all_digits(t)
 }
 
-// What a text says as a natural number.
-pub fn natural(t: &[u8]) -> Number
+// What a text says as a natural number: digits, with no zero in front of another.
+#[tactic(auto, unfolding(crate::specs::Numbers::number_of))]
+pub fn natural(t: &[u8]) -> Result<u64, NumberError>
     ensures { result ≡ number_of t.now }
 {
     if is_natural(t) {
         return said(t);
     }
-    Number::Not
+    Err(NumberError::Not)
 }
 
-fn plus(n: Number) -> Signed
+#[tactic(auto, unfolding(crate::specs::Numbers::plus_of))]
+fn plus(n: Result<u64, NumberError>) -> Result<Signed, NumberError>
     ensures { result ≡ plus_of n }
 {
-    match n {
-        Number::Is(v) => Signed::Plus(v),
-        Number::Large => Signed::Large,
-        Number::Not => Signed::Not,
-    }
+    Ok(Signed::Plus(n?))
 }
 
-fn minus(n: Number) -> Signed
+#[tactic(auto, unfolding(crate::specs::Numbers::minus_of))]
+fn minus(n: Result<u64, NumberError>) -> Result<Signed, NumberError>
     ensures { result ≡ minus_of n }
 {
-    match n {
-        Number::Is(v) => {
-            if v == 0 {
-                return Signed::Not;
-            }
-            Signed::Minus(v)
-        }
-        Number::Large => Signed::Large,
-        Number::Not => Signed::Not,
+    let v = n?;
+    if v == 0 {
+        return Err(NumberError::Not);
     }
+    Ok(Signed::Minus(v))
 }
 
 // What a text says as a whole number.
-pub fn whole(t: &[u8]) -> Signed
+pub fn whole(t: &[u8]) -> Result<Signed, NumberError>
     ensures { result ≡ whole_of (read_whole t.now) }
 {
-    if t.len() == 0 {
-        return Signed::Not;
-    }
-    if t[0] == b'-' {
-        return minus(natural(&t[1..]));
+    if let [b'-', magnitude @ ..] = t {
+        return minus(natural(magnitude));
     }
     plus(natural(t))
 }

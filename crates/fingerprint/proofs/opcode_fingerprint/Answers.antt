@@ -9,16 +9,14 @@ use Rattle.fingerprint.proofs.opcode_fingerprint.Goals as goal
 
 pub loop-opcode-init : goal.loop-opcode-init
 unfolding fingerprint table_bytes fnv1a_of
-loop-opcode-init c = (omega arith, refl)
+loop-opcode-init c = refl
 
 pub loop-opcode-preserved : goal.loop-opcode-preserved
 loop-opcode-preserved c =
-    let k = c.loop-opcode.opcode in (
-      omega arith,
-      ap (λ (h : ℕ). hash_from h (from (k + 1))) c.opcode_on-hash.ensures
-          ∙ hash_opcode c.loop-opcode.hash k _ _ c.text-texts.ensures c.starts-starts.ensures
-          (omega arith) ∙ c.loop-opcode.invariant.1,
-    )
+    let k = c.loop-opcode.opcode in
+    ap (λ (h : ℕ). hash_from h (from (k + 1))) c.opcode_on-hash.ensures
+    ∙ hash_opcode c.loop-opcode.hash k _ _ c.text-texts.ensures c.starts-starts.ensures (omega arith)
+    ∙ c.loop-opcode.invariant
 
 pub returns : goal.returns
-returns c = sym (hash_last c.loop-opcode.hash c.loop-opcode.opcode (omega arith)) ∙ c.loop-opcode.invariant.1
+returns c = sym (hash_last c.loop-opcode.hash c.loop-opcode.opcode (omega arith)) ∙ c.loop-opcode.invariant

@@ -1,7 +1,7 @@
 -- `listing::turn` meets its contract: what the part says of the listing.
 -- Assumes nothing.
-use mathlib.Core.Path.{refl, sym, ◌∙◌}
-use native.Mathlib.Omega.{arith}
+use Rattle.std.proofs.Common.{◌≡◌, Ok, sym, ◌∙◌, arith}
+use Rattle.std.proofs.lemmas.Grind.{common_steps}
 use lib.Seq.{length-take-le}
 use Rattle.text.proofs.Joining.{plain_fits}
 use Rattle.listing.proofs.Turning.{turned}
@@ -9,21 +9,19 @@ use Rattle.listing.proofs.turn.Goals as goal
 
 pub slice_bounds-write_all-end : goal.slice_bounds-write_all-end
 slice_bounds-write_all-end g c =
-    omega (
-      arith,
-      plain_fits c.args.code.now c.args.out.now c.args.from c.in-Part.length c.in-Part.next
-          (sym c.list-part.ensures.answers ∙ c.in-Part.is),
-    )
+    let part = c.in_ok-part.part in
+    let made : c.list.result ≡ Ok part = grind (arith, common_steps) in
+    omega (arith, plain_fits c.args.code.now c.args.out.now c.args.from part.length part.next (sym c.list.ensures.answers ∙ made))
 
 pub slice_bounds-write_all-end-2 : goal.slice_bounds-write_all-end-2
 slice_bounds-write_all-end-2 g c =
-    sym (length-take-le _ _ (omega (
-      arith,
-      plain_fits c.args.code.now c.args.out.now c.args.from c.in-Part.length c.in-Part.next
-          (sym c.list-part.ensures.answers ∙ c.in-Part.is),
-    )))
+    let part = c.in_ok-part.part in
+    let made : c.list.result ≡ Ok part = grind (arith, common_steps) in
+    sym (length-take-le _ _ (omega
+    (arith, plain_fits c.args.code.now c.args.out.now c.args.from part.length part.next (sym c.list.ensures.answers ∙ made))))
 
 pub returns : goal.returns
 returns g c =
-    turned c.args.code.now c.args.from c.args.out.now _ c.in-Part.length c.in-Part.next
-    (sym c.list-part.ensures.answers ∙ c.in-Part.is) c.list-part.ensures.cells c.is_ok-fine.result _ refl
+    let part = c.in_ok-part.part in
+    let made : c.list.result ≡ Ok part = grind (arith, common_steps) in
+    turned c.args.code.now c.args.from c.args.out.now _ part (sym c.list.ensures.answers ∙ made) c.list.ensures.cells

@@ -1,9 +1,8 @@
 -- The entry of row i contains the offset: it is the answer. It does not: the search goes on at the next row.
-use Rattle.std.proofs.Common.{◌≡◌, true, false, List, ℕ, ◌+◌, ◌<◌, ◌≤◌, arith, length, drop, get_or, ◌∙◌, add-one, drop-cons}
+use Rattle.std.proofs.Common.{◌≡◌, true, false, List, ℕ, ◌+◌, ◌<◌, ◌≤◌, length, drop, get_or, sym, ◌∙◌, add-one, drop-cons}
 use lib.ListN.{drop_of_length-le}
 use mathlib.Core.Bool.{cond}
 use Rattle.code.specs.Entries.{contains, find_from}
-use Rattle.code.specs.Lookups.{covers_of}
 use Rattle.code.specs.declared.ExceptionEntry.{ExceptionEntry}
 use Rattle.code.specs.declared.HandlerKind.TheVariants.{Consuming}
 use Rattle.code.specs.declared.Found.TheVariants.{Row, Absent}
@@ -30,13 +29,11 @@ missed : (xs : List ExceptionEntry) (x i : ℕ) → i < length xs → contains (
     → find_from (drop (i + 1) xs) x (i + 1) ≡ find_from (drop i xs) x i
 missed xs x i l e = rw (one_on xs x i l, e)
 
-pub returns-then-e-offset : goal.returns-then-e-offset
-unfolding covers_of
-returns-then-e-offset c = hit _ _ _ c.loop-i-test.true c.if-e-offset.true ∙ c.loop-i.invariant.1
+pub returns-then-contains : goal.returns-then-contains
+returns-then-contains c = hit _ _ _ c.loop-i-test.true (sym c.contains.ensures ∙ c.if-contains.true) ∙ c.loop-i.invariant
 
 pub loop-i-preserved : goal.loop-i-preserved
-unfolding covers_of
-loop-i-preserved c = (omega arith, missed _ _ _ c.loop-i-test.true c.if-e-offset.false ∙ c.loop-i.invariant.1)
+loop-i-preserved c = missed _ _ _ c.loop-i-test.true (sym c.contains.ensures ∙ c.if-contains.false) ∙ c.loop-i.invariant
 
 pub returns : goal.returns
-returns c = at_end _ _ _ c.loop-i-test.false ∙ c.loop-i.invariant.1
+returns c = at_end _ _ _ c.loop-i-test.false ∙ c.loop-i.invariant

@@ -1,26 +1,19 @@
-use mathlib.Core.Path.{◌∙◌, ap}
-use Prim.Native.Nat.{◌-◌}
-use native.Mathlib.Omega.{arith}
-use lib.ListN.{length, drop, length-drop}
+use Rattle.std.proofs.Common.{◌-◌, ◌∙◌, ap, arith, length, drop, length-drop}
+use Rattle.std.proofs.lemmas.Bool.Decides.{nat_tests}
 use lib.Seq.{take_all}
 use Rattle.words.specs.Numbers.{number_of, plus_of, minus_of}
-use Rattle.words.proofs.Reading.{empty_read, signed_read, unsigned_read}
+use Rattle.words.proofs.Reading.{signed_read, unsigned_read}
 use Rattle.words.proofs.whole.Goals as goal
+use Rattle.words.proofs.whole.Goals.{then-t-lt1, else-t-lt1+in_default-1}
 
--- src/lib.rt:148:9
-pub returns-then-t-eq0 : goal.returns-then-t-eq0
-returns-then-t-eq0 c = empty_read c.args.t.now c.if-t-eq0.true
-
--- src/lib.rt:151:9
-pub returns-then-t-eq45 : goal.returns-then-t-eq45
-returns-then-t-eq45 c =
+pub returns-in-45 : goal.returns-in-45
+returns-in-45 c =
     let t = c.args.t.now in
-    c.minus.ensures ∙ ap minus_of
-    (c.natural.ensures ∙ ap number_of (take_all (length t - 1) (drop 1 t) (simp length-drop (omega arith))))
-    ∙ signed_read t c.if-t-eq0.false c.if-t-eq45.true
+    c.minus.ensures
+    ∙ ap minus_of (c.natural.ensures ∙ ap number_of (take_all (length t - 1) (drop 1 t) (simp length-drop (omega arith))))
+    ∙ signed_read t (omega arith) (omega arith)
 
--- src/lib.rt:144:1
 pub returns : goal.returns
 returns c =
-    c.plus.ensures ∙ ap plus_of c.natural-2.ensures
-    ∙ unsigned_read c.args.t.now c.if-t-eq0.false c.if-t-eq45.false
+    let t = c.args.t.now in
+    c.plus.ensures ∙ ap plus_of c.natural-2.ensures ∙ unsigned_read t (λ h k. elim c.if-t-lt1.branch [ then-t-lt1 w ↦ grind (arith, nat_tests) | else-t-lt1+in_default-1 w ↦ grind (arith, nat_tests) ])

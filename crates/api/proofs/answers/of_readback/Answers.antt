@@ -10,5 +10,5 @@ refused_as : {number line number' line' : ℕ} → number ≡ number' → line �
     → number * half + line ≡ number' * half + line'
 refused_as p q = cc
 
-pub returns-in-Refused : goal.returns-in-Refused
-returns-in-Refused c = rw c.in-Refused.is (refused_as c.number.ensures c.low.ensures)
+pub returns-in-Err : goal.returns-in-Err
+returns-in-Err c = rw c.in-Err.is (refused_as c.number.ensures c.low.ensures)

@@ -1,27 +1,18 @@
--- `readback::fields::cut` meets its contract: no separator stands in front of the place. The measure is the bytes left.
+-- `readback::fields::cut` meets its contract: the library's place, or the length.
 -- Assumes nothing.
-use native.Mathlib.Omega.{arith}
-use Rattle.readback.proofs.Cutting.{cut_here, cut_on, cut_end}
+use Rattle.std.proofs.Common.{rules, tests, ◌∙◌, ap, ℕ, Option, nat_eq, length}
+use Rattle.std.proofs.lemmas.Iterator.{YieldsList-from_slice}
+use Rattle.std.proofs.lemmas.Iterator.Search.{position_from_yields_List}
+use Rattle.std.specs.Option.{unwrap_or}
+use Rattle.readback.proofs.Cutting.{place_is}
 use Rattle.readback.proofs.fields.cut.Goals as goal
 
-pub loop-i-init : goal.loop-i-init
-loop-i-init c = (omega arith, omega arith)
-
-pub returns-then-t-i : goal.returns-then-t-i
-returns-then-t-i c =
-    omega (
-      arith,
-      cut_here c.args.b c.args.t.now c.loop-i.i c.loop-i-test.true c.if-t-i.true,
-    )
-
-pub loop-i-preserved : goal.loop-i-preserved
-loop-i-preserved c = (
-  omega arith,
-  omega (
-    arith,
-    cut_on c.args.b c.args.t.now c.loop-i.i c.loop-i-test.true c.if-t-i.false,
-  ),
-)
-
 pub returns : goal.returns
-returns c = omega (arith, cut_end c.args.b c.args.t.now c.loop-i.i c.loop-i-test.false)
+returns c =
+    let t = c.args.t.now in
+    let b = c.args.b in
+    c.unwrap_or.ensures
+    ∙ ap (λ (o : Option ℕ). unwrap_or o (length t))
+    (position_from_yields_List (λ (x : ℕ). nat_eq x b) _ _ _ c.position.ensures.ran (YieldsList-from_slice t cc)
+    (λ x r q k. search (rules, tests)))
+    ∙ place_is b t

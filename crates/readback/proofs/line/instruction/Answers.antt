@@ -1,5 +1,9 @@
 -- `readback::line::instruction` meets its contract: what the name and the column say is what their functions promise.
 -- Assumes nothing.
+use Rattle.std.proofs.lemmas.Grind.{common_steps}
+use Rattle.std.specs.Prelude.{None}
+use Rattle.readback.specs.declared.numbers.Numbers.{Numbers}
+use Rattle.std.specs.Prelude.{Option as Maybe}
 use mathlib.Core.Option.{some as present}
 use mathlib.Core.List.{List}
 use mathlib.Core.Path.{◌≡◌, sym, ap, ◌∙◌, subst}
@@ -9,7 +13,6 @@ use lib.Seq.{length-take-le}
 use lib.ListN.{length, take}
 use Rattle.op.specs.Shapes.{shape_of}
 use Rattle.text.specs.Reading.{opcode_of, read_operands}
-use Rattle.readback.specs.declared.numbers.Numbers.{Numbers}
 use Rattle.readback.specs.Inner.{Spells}
 use Rattle.readback.specs.Operands.{said}
 use Rattle.readback.proofs.Telling.{said_unknown, said_none, said_some, spoken_none, spoken_some, names_part}
@@ -23,63 +26,67 @@ returns-in_default c =
     (ap shape_of (sym c.opcode-opcode.ensures) ∙ sym c.operand_shape-shaped.ensures
     ∙ c.in_default.is)
 
-pub returns-in_default-read : goal.returns-in_default-read
-returns-in_default-read c =
+pub returns-in_err-numbers : goal.returns-in_err-numbers
+returns-in_err-numbers c =
     let a = c.args in
     let is = ap shape_of (sym c.opcode-opcode.ensures) ∙ sym c.operand_shape-shaped.ensures
     ∙ c.in-Is.is in
-    let cells = c.read-read.new.cells in
-    let unread = subst (λ (r : Numbers). Spells a.column.now r cells) c.in_default-read.is
-    c.read-read.ensures in
+    let cells = c.read.new.cells in
+    let unread = subst (λ (r : Maybe Numbers). Spells a.column.now r cells) c.in_err-numbers.was
+    c.read.ensures in
+    let gone : c.from_residual.result ≡ None = grind (arith, common_steps) in
+    rw gone (
     said_none (opcode_of a.name.now) (read_operands a.column.now) c.in-Is.shape is
-    (unread c.in-Is.shape)
+    (unread c.in-Is.shape))
 
 pub slice_bounds-of_shape-end : goal.slice_bounds-of_shape-end
 slice_bounds-of_shape-end c =
-    let cells = c.read-read.new.cells in
-    let spelt = subst (λ (r : Numbers). Spells c.args.column.now r cells) c.in-Are.is
-    c.read-read.ensures in
-    omega (arith, spelt.0, c.requires.0)
+    let cells = c.read.new.cells in
+    let spelt = subst (λ (r : Maybe Numbers). Spells c.args.column.now r cells) c.in_ok-numbers.was
+    c.read.ensures in
+    omega (arith, spelt.0, c.requires)
 
 pub slice_bounds-of_shape-end-2 : goal.slice_bounds-of_shape-end-2
 slice_bounds-of_shape-end-2 c =
-    let cells = c.read-read.new.cells in
-    let spelt = subst (λ (r : Numbers). Spells c.args.column.now r cells) c.in-Are.is
-    c.read-read.ensures in
-    sym (length-take-le c.in-Are.count cells (omega (arith, spelt.0, c.requires.0)))
+    let cells = c.read.new.cells in
+    let spelt = subst (λ (r : Maybe Numbers). Spells c.args.column.now r cells) c.in_ok-numbers.was
+    c.read.ensures in
+    sym (length-take-le c.in_ok-numbers.numbers.count cells (omega (arith, spelt.0, c.requires)))
 
-pub returns-in_default-spoken : goal.returns-in_default-spoken
-returns-in_default-spoken c =
+pub returns-in_err-spoken : goal.returns-in_err-spoken
+returns-in_err-spoken c =
     let a = c.args in
     let s = c.in-Is.shape in
-    let count = c.in-Are.count in
-    let minus = c.in-Are.minus in
-    let cells = c.read-read.new.cells in
+    let count = c.in_ok-numbers.numbers.count in
+    let minus = c.in_ok-numbers.numbers.minus in
+    let cells = c.read.new.cells in
     let is = ap shape_of (sym c.opcode-opcode.ensures) ∙ sym c.operand_shape-shaped.ensures
     ∙ c.in-Is.is in
-    let spelt = subst (λ (r : Numbers). Spells a.column.now r cells) c.in-Are.is
-    c.read-read.ensures in
+    let spelt = subst (λ (r : Maybe Numbers). Spells a.column.now r cells) c.in_ok-numbers.was
+    c.read.ensures in
     let none = spoken_none s minus (take count cells)
-    (sym c.in_default-spoken.is ∙ c.of_shape-spoken.ensures) in
-    said_none (opcode_of a.name.now) (read_operands a.column.now) s is (unsaid_column s _ _ spelt.1 none)
+    (sym c.in_err-spoken.was ∙ c.of_shape.ensures) in
+    let gone : c.from_residual-in_err-spoken.result ≡ None = grind (arith, common_steps) in
+    rw gone (
+    said_none (opcode_of a.name.now) (read_operands a.column.now) s is (unsaid_column s _ _ spelt.1 none))
 
 pub returns : goal.returns
 returns c =
     let a = c.args in
     let s = c.in-Is.shape in
-    let count = c.in-Are.count in
-    let minus = c.in-Are.minus in
-    let cells = c.read-read.new.cells in
-    let operand = c.in-Is-spoken.operand in
-    let from = c.in-Is-spoken.names in
+    let count = c.in_ok-numbers.numbers.count in
+    let minus = c.in_ok-numbers.numbers.minus in
+    let cells = c.read.new.cells in
+    let operand = c.in_ok-spoken.spoken.operand in
+    let from = c.in_ok-spoken.spoken.names in
     let is = ap shape_of (sym c.opcode-opcode.ensures) ∙ sym c.operand_shape-shaped.ensures
     ∙ c.in-Is.is in
-    let spelt = subst (λ (r : Numbers). Spells a.column.now r cells) c.in-Are.is
-    c.read-read.ensures in
+    let spelt = subst (λ (r : Maybe Numbers). Spells a.column.now r cells) c.in_ok-numbers.was
+    c.read.ensures in
     let spoken = spoken_some s minus (take count cells) operand from
-    (sym c.in-Is-spoken.is ∙ c.of_shape-spoken.ensures) in
+    (sym c.in_ok-spoken.was ∙ c.of_shape.ensures) in
     let held : length (take count cells) ≡ count = length-take-le count cells
-    (omega (arith, spelt.0, c.requires.0)) in
+    (omega (arith, spelt.0, c.requires)) in
     let ordered : from ≤ count = omega (arith, spoken.0) in
     record {
       opcode = c.opcode-opcode.ensures;

@@ -44,14 +44,13 @@ pub read-answer-requires : goal.read-answer-requires
 read-answer-requires c = (
   omega (arith, c.loop-from.invariant.0.fits, c.requires.0),
   omega (arith, c.loop-from.invariant.1, c.requires.1),
-  c.requires.2,
 )
 
-pub shape_of-out-in-Bad : goal.shape_of-out-in-Bad
-shape_of-out-in-Bad c = omega (arith, c.loop-from.invariant.0.size)
+pub shape_of-out-in-Err : goal.shape_of-out-in-Err
+shape_of-out-in-Err c = omega (arith, c.loop-from.invariant.0.size)
 
-pub returns-in-Bad : goal.returns-in-Bad
-returns-in-Bad c =
+pub returns-in-Err : goal.returns-in-Err
+returns-in-Err c =
     let end_is : c.cut-end.result ≡ cut_at 10 (drop c.loop-from.from c.args.body.now) = c.cut-end.ensures ∙ ap (cut_at 10) (rest_is c.args.body.now c.loop-from.from) in
     let left_size : length (take (length c.args.body.now - c.loop-from.from) (drop c.loop-from.from c.args.body.now)) ≡ length (drop c.loop-from.from c.args.body.now) = ap length (rest_is c.args.body.now c.loop-from.from) in
     let ended : cut_at 10 (drop c.loop-from.from c.args.body.now) < length (drop c.loop-from.from c.args.body.now) = omega (arith, end_is, left_size, c.if-rest-end.false) in
@@ -64,7 +63,7 @@ returns-in-Bad c =
     (line_judged c.loop-from.at (length (take (length c.loop-from.out - c.loop-from.at) (drop c.loop-from.at c.loop-from.out))) (length c.args.out.now - c.loop-from.at) _ (take (cut_at 10 (drop c.loop-from.from c.args.body.now)) (drop c.loop-from.from c.args.body.now)) mid line_is) c.read-answer.ensures in
     turned_bad c.args.body.now c.args.out.now c.loop-from.out c.loop-from.from c.loop-from.number c.loop-from.at state ended
     (judge c.loop-from.at (length c.args.out.now - c.loop-from.at) (take (cut_at 10 (drop c.loop-from.from c.args.body.now)) (drop c.loop-from.from c.args.body.now))) refl _ _
-    (sym c.in-Bad.is ∙ judged.answers)
+    (sym c.in-Err.is ∙ judged.answers)
 
 pub overflow_add-at : goal.overflow_add-at
 overflow_add-at c =
@@ -79,10 +78,10 @@ overflow_add-at c =
     subst (λ (j : Judged). Lays j (take (length c.loop-from.out - c.loop-from.at) (drop c.loop-from.at c.loop-from.out)) c.read-answer.result c.read-answer.new.out)
     (line_judged c.loop-from.at (length (take (length c.loop-from.out - c.loop-from.at) (drop c.loop-from.at c.loop-from.out))) (length c.args.out.now - c.loop-from.at) _ (take (cut_at 10 (drop c.loop-from.from c.args.body.now)) (drop c.loop-from.from c.args.body.now)) mid line_is) c.read-answer.ensures in
     let behind : (Turned c.args.body.now (length c.args.out.now) (put_mid c.loop-from.at (length c.loop-from.out - c.loop-from.at) c.loop-from.out c.read-answer.new.out)
-    (c.loop-from.from + c.cut-end.result + 1) (c.loop-from.number + 1) (c.loop-from.at + c.in-Good.size)) = turned_good c.args.body.now c.args.out.now c.loop-from.out c.loop-from.from c.loop-from.number c.loop-from.at state ended
-    (judge c.loop-from.at (length c.args.out.now - c.loop-from.at) (take (cut_at 10 (drop c.loop-from.from c.args.body.now)) (drop c.loop-from.from c.args.body.now))) refl c.in-Good.size c.cut-end.result
+    (c.loop-from.from + c.cut-end.result + 1) (c.loop-from.number + 1) (c.loop-from.at + c.in-Ok.size)) = turned_good c.args.body.now c.args.out.now c.loop-from.out c.loop-from.from c.loop-from.number c.loop-from.at state ended
+    (judge c.loop-from.at (length c.args.out.now - c.loop-from.at) (take (cut_at 10 (drop c.loop-from.from c.args.body.now)) (drop c.loop-from.from c.args.body.now))) refl c.in-Ok.size c.cut-end.result
     c.read-answer.new.out
-    (sym c.in-Good.is ∙ judged.answers) judged.cells end_is in
+    (sym c.in-Ok.is ∙ judged.answers) judged.cells end_is in
     omega (arith, behind.fits, c.requires.0)
 
 pub overflow_add-from : goal.overflow_add-from
@@ -98,10 +97,10 @@ overflow_add-from c =
     subst (λ (j : Judged). Lays j (take (length c.loop-from.out - c.loop-from.at) (drop c.loop-from.at c.loop-from.out)) c.read-answer.result c.read-answer.new.out)
     (line_judged c.loop-from.at (length (take (length c.loop-from.out - c.loop-from.at) (drop c.loop-from.at c.loop-from.out))) (length c.args.out.now - c.loop-from.at) _ (take (cut_at 10 (drop c.loop-from.from c.args.body.now)) (drop c.loop-from.from c.args.body.now)) mid line_is) c.read-answer.ensures in
     let behind : (Turned c.args.body.now (length c.args.out.now) (put_mid c.loop-from.at (length c.loop-from.out - c.loop-from.at) c.loop-from.out c.read-answer.new.out)
-    (c.loop-from.from + c.cut-end.result + 1) (c.loop-from.number + 1) (c.loop-from.at + c.in-Good.size)) = turned_good c.args.body.now c.args.out.now c.loop-from.out c.loop-from.from c.loop-from.number c.loop-from.at state ended
-    (judge c.loop-from.at (length c.args.out.now - c.loop-from.at) (take (cut_at 10 (drop c.loop-from.from c.args.body.now)) (drop c.loop-from.from c.args.body.now))) refl c.in-Good.size c.cut-end.result
+    (c.loop-from.from + c.cut-end.result + 1) (c.loop-from.number + 1) (c.loop-from.at + c.in-Ok.size)) = turned_good c.args.body.now c.args.out.now c.loop-from.out c.loop-from.from c.loop-from.number c.loop-from.at state ended
+    (judge c.loop-from.at (length c.args.out.now - c.loop-from.at) (take (cut_at 10 (drop c.loop-from.from c.args.body.now)) (drop c.loop-from.from c.args.body.now))) refl c.in-Ok.size c.cut-end.result
     c.read-answer.new.out
-    (sym c.in-Good.is ∙ judged.answers) judged.cells end_is in
+    (sym c.in-Ok.is ∙ judged.answers) judged.cells end_is in
     omega (arith, behind.inside)
 
 pub overflow_add-from-in-loop-from : goal.overflow_add-from-in-loop-from
@@ -117,10 +116,10 @@ overflow_add-from-in-loop-from c =
     subst (λ (j : Judged). Lays j (take (length c.loop-from.out - c.loop-from.at) (drop c.loop-from.at c.loop-from.out)) c.read-answer.result c.read-answer.new.out)
     (line_judged c.loop-from.at (length (take (length c.loop-from.out - c.loop-from.at) (drop c.loop-from.at c.loop-from.out))) (length c.args.out.now - c.loop-from.at) _ (take (cut_at 10 (drop c.loop-from.from c.args.body.now)) (drop c.loop-from.from c.args.body.now)) mid line_is) c.read-answer.ensures in
     let behind : (Turned c.args.body.now (length c.args.out.now) (put_mid c.loop-from.at (length c.loop-from.out - c.loop-from.at) c.loop-from.out c.read-answer.new.out)
-    (c.loop-from.from + c.cut-end.result + 1) (c.loop-from.number + 1) (c.loop-from.at + c.in-Good.size)) = turned_good c.args.body.now c.args.out.now c.loop-from.out c.loop-from.from c.loop-from.number c.loop-from.at state ended
-    (judge c.loop-from.at (length c.args.out.now - c.loop-from.at) (take (cut_at 10 (drop c.loop-from.from c.args.body.now)) (drop c.loop-from.from c.args.body.now))) refl c.in-Good.size c.cut-end.result
+    (c.loop-from.from + c.cut-end.result + 1) (c.loop-from.number + 1) (c.loop-from.at + c.in-Ok.size)) = turned_good c.args.body.now c.args.out.now c.loop-from.out c.loop-from.from c.loop-from.number c.loop-from.at state ended
+    (judge c.loop-from.at (length c.args.out.now - c.loop-from.at) (take (cut_at 10 (drop c.loop-from.from c.args.body.now)) (drop c.loop-from.from c.args.body.now))) refl c.in-Ok.size c.cut-end.result
     c.read-answer.new.out
-    (sym c.in-Good.is ∙ judged.answers) judged.cells end_is in
+    (sym c.in-Ok.is ∙ judged.answers) judged.cells end_is in
     omega (arith, behind.inside)
 
 pub overflow_add-number : goal.overflow_add-number
@@ -136,10 +135,10 @@ overflow_add-number c =
     subst (λ (j : Judged). Lays j (take (length c.loop-from.out - c.loop-from.at) (drop c.loop-from.at c.loop-from.out)) c.read-answer.result c.read-answer.new.out)
     (line_judged c.loop-from.at (length (take (length c.loop-from.out - c.loop-from.at) (drop c.loop-from.at c.loop-from.out))) (length c.args.out.now - c.loop-from.at) _ (take (cut_at 10 (drop c.loop-from.from c.args.body.now)) (drop c.loop-from.from c.args.body.now)) mid line_is) c.read-answer.ensures in
     let behind : (Turned c.args.body.now (length c.args.out.now) (put_mid c.loop-from.at (length c.loop-from.out - c.loop-from.at) c.loop-from.out c.read-answer.new.out)
-    (c.loop-from.from + c.cut-end.result + 1) (c.loop-from.number + 1) (c.loop-from.at + c.in-Good.size)) = turned_good c.args.body.now c.args.out.now c.loop-from.out c.loop-from.from c.loop-from.number c.loop-from.at state ended
-    (judge c.loop-from.at (length c.args.out.now - c.loop-from.at) (take (cut_at 10 (drop c.loop-from.from c.args.body.now)) (drop c.loop-from.from c.args.body.now))) refl c.in-Good.size c.cut-end.result
+    (c.loop-from.from + c.cut-end.result + 1) (c.loop-from.number + 1) (c.loop-from.at + c.in-Ok.size)) = turned_good c.args.body.now c.args.out.now c.loop-from.out c.loop-from.from c.loop-from.number c.loop-from.at state ended
+    (judge c.loop-from.at (length c.args.out.now - c.loop-from.at) (take (cut_at 10 (drop c.loop-from.from c.args.body.now)) (drop c.loop-from.from c.args.body.now))) refl c.in-Ok.size c.cut-end.result
     c.read-answer.new.out
-    (sym c.in-Good.is ∙ judged.answers) judged.cells end_is in
+    (sym c.in-Ok.is ∙ judged.answers) judged.cells end_is in
     omega (arith, behind.number, behind.fits, c.requires.0)
 
 pub loop-from-smaller : goal.loop-from-smaller
@@ -155,10 +154,10 @@ loop-from-smaller c =
     subst (λ (j : Judged). Lays j (take (length c.loop-from.out - c.loop-from.at) (drop c.loop-from.at c.loop-from.out)) c.read-answer.result c.read-answer.new.out)
     (line_judged c.loop-from.at (length (take (length c.loop-from.out - c.loop-from.at) (drop c.loop-from.at c.loop-from.out))) (length c.args.out.now - c.loop-from.at) _ (take (cut_at 10 (drop c.loop-from.from c.args.body.now)) (drop c.loop-from.from c.args.body.now)) mid line_is) c.read-answer.ensures in
     let behind : (Turned c.args.body.now (length c.args.out.now) (put_mid c.loop-from.at (length c.loop-from.out - c.loop-from.at) c.loop-from.out c.read-answer.new.out)
-    (c.loop-from.from + c.cut-end.result + 1) (c.loop-from.number + 1) (c.loop-from.at + c.in-Good.size)) = turned_good c.args.body.now c.args.out.now c.loop-from.out c.loop-from.from c.loop-from.number c.loop-from.at state ended
-    (judge c.loop-from.at (length c.args.out.now - c.loop-from.at) (take (cut_at 10 (drop c.loop-from.from c.args.body.now)) (drop c.loop-from.from c.args.body.now))) refl c.in-Good.size c.cut-end.result
+    (c.loop-from.from + c.cut-end.result + 1) (c.loop-from.number + 1) (c.loop-from.at + c.in-Ok.size)) = turned_good c.args.body.now c.args.out.now c.loop-from.out c.loop-from.from c.loop-from.number c.loop-from.at state ended
+    (judge c.loop-from.at (length c.args.out.now - c.loop-from.at) (take (cut_at 10 (drop c.loop-from.from c.args.body.now)) (drop c.loop-from.from c.args.body.now))) refl c.in-Ok.size c.cut-end.result
     c.read-answer.new.out
-    (sym c.in-Good.is ∙ judged.answers) judged.cells end_is in
+    (sym c.in-Ok.is ∙ judged.answers) judged.cells end_is in
     omega (arith, behind.inside)
 
 pub loop-from-preserved : goal.loop-from-preserved
@@ -174,10 +173,10 @@ loop-from-preserved c =
     subst (λ (j : Judged). Lays j (take (length c.loop-from.out - c.loop-from.at) (drop c.loop-from.at c.loop-from.out)) c.read-answer.result c.read-answer.new.out)
     (line_judged c.loop-from.at (length (take (length c.loop-from.out - c.loop-from.at) (drop c.loop-from.at c.loop-from.out))) (length c.args.out.now - c.loop-from.at) _ (take (cut_at 10 (drop c.loop-from.from c.args.body.now)) (drop c.loop-from.from c.args.body.now)) mid line_is) c.read-answer.ensures in
     let behind : (Turned c.args.body.now (length c.args.out.now) (put_mid c.loop-from.at (length c.loop-from.out - c.loop-from.at) c.loop-from.out c.read-answer.new.out)
-    (c.loop-from.from + c.cut-end.result + 1) (c.loop-from.number + 1) (c.loop-from.at + c.in-Good.size)) = turned_good c.args.body.now c.args.out.now c.loop-from.out c.loop-from.from c.loop-from.number c.loop-from.at state ended
-    (judge c.loop-from.at (length c.args.out.now - c.loop-from.at) (take (cut_at 10 (drop c.loop-from.from c.args.body.now)) (drop c.loop-from.from c.args.body.now))) refl c.in-Good.size c.cut-end.result
+    (c.loop-from.from + c.cut-end.result + 1) (c.loop-from.number + 1) (c.loop-from.at + c.in-Ok.size)) = turned_good c.args.body.now c.args.out.now c.loop-from.out c.loop-from.from c.loop-from.number c.loop-from.at state ended
+    (judge c.loop-from.at (length c.args.out.now - c.loop-from.at) (take (cut_at 10 (drop c.loop-from.from c.args.body.now)) (drop c.loop-from.from c.args.body.now))) refl c.in-Ok.size c.cut-end.result
     c.read-answer.new.out
-    (sym c.in-Good.is ∙ judged.answers) judged.cells end_is in
+    (sym c.in-Ok.is ∙ judged.answers) judged.cells end_is in
     (behind, search rules)
 
 pub shape_of-out : goal.shape_of-out

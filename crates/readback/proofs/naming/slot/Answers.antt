@@ -11,7 +11,7 @@ returns c =
       c.letter-3.ensures.0,
       c.letter-2.ensures.0,
       c.letter.ensures.0,
-      c.back-3.ensures,
-      c.back-2.ensures,
-      c.back.ensures,
+      c.saturating_sub-3.ensures,
+      c.saturating_sub-2.ensures,
+      c.saturating_sub.ensures,
     )

@@ -15,7 +15,7 @@ use Rattle.readback.proofs.Slots.{slot_small, placed_none, placed_on, placed_all
 use Rattle.readback.proofs.naming.slots.Goals as goal
 
 pub loop-opcode-init : goal.loop-opcode-init
-loop-opcode-init c = (omega arith, placed_none)
+loop-opcode-init c = placed_none
 
 pub bounds-slots-at : goal.bounds-slots-at
 bounds-slots-at c = omega (arith, c.slot-at.ensures, slot_small c.of_opcode.result.now)
@@ -29,10 +29,10 @@ loop-opcode-preserved c =
     rw (c.requires.0, c.requires.1) (name_by_lem k known) in
     let at : c.slot-at.result ≡ slot_of (name_of k) =
     c.slot-at.ensures ∙ ap slot_of (c.of_opcode.ensures ∙ name) in
-    (omega (arith, c.loop-opcode-test.true), rw (add-one k, at) (sym (placed_on k slots known) ∙ c.loop-opcode.invariant.1))
+    rw (add-one k, at) (sym (placed_on k slots known) ∙ c.loop-opcode.invariant)
 
 pub returns : goal.returns
 returns c =
     let k = c.loop-opcode.opcode in
     let slots = c.loop-opcode.slots in
-    sym (placed_all k slots (omega (arith, rows, c.loop-opcode-test.false))) ∙ c.loop-opcode.invariant.1
+    sym (placed_all k slots (omega (arith, rows, c.loop-opcode-test.false))) ∙ c.loop-opcode.invariant

@@ -1,6 +1,9 @@
 -- `readback::numbers::from_first` meets its contract: the cells hold the numbers up to the place, and the others stand
 -- behind it. The measure is the bytes left.
 -- Assumes nothing.
+use Rattle.std.proofs.lemmas.Grind.{common_steps}
+use Rattle.std.specs.Prelude.{Some, None}
+use Rattle.readback.specs.declared.numbers.Small.TheVariants as Z
 use mathlib.Core.Path.{◌≡◌, sym, ap, ◌∙◌, subst}
 use mathlib.Core.List.{List}
 use Prim.Native.Nat.{ℕ, ◌+◌, ◌≤◌, ◌<◌}
@@ -44,17 +47,31 @@ slice_bounds-small_number-end c =
       ap length (rest_is c.args.c.now (c.loop-at.at + 1)),
     )))
 
+pub returns-in_err-number : goal.returns-in_err-number
+returns-in_err-number c =
+    let end_is : c.cut-e.result ≡ cut_at 44 (rest_at c.args.c.now c.loop-at.at) = c.cut-e.ensures ∙ ap (cut_at 44) (rest_is c.args.c.now (c.loop-at.at + 1)) in
+    let number_is : c.small_number.result ≡ small_of (read_whole (part_at c.args.c.now c.loop-at.at)) = let rest = rest_at c.args.c.now c.loop-at.at in
+    c.small_number.ensures
+    ∙ ap (λ (l : List ℕ). small_of (read_whole (take c.cut-e.result l))) (rest_is c.args.c.now (c.loop-at.at + 1))
+    ∙ ap (λ (n : ℕ). small_of (read_whole (take n rest))) end_is in
+    let a = c.args in
+    let l = c.loop-at in
+    let none : c.from_residual.result ≡ None = grind (arith, common_steps) in
+    rw none (
+    column_not a.c.now l.at l.n a.minus l.cells l.invariant.0 c.loop-at-test.true
+    (λ w e. let z : None ≡ Some (Z.Plus w) = sym c.in_err-number.was ∙ number_is ∙ e in cc))
+
 pub returns-in_default : goal.returns-in_default
 returns-in_default c =
     let end_is : c.cut-e.result ≡ cut_at 44 (rest_at c.args.c.now c.loop-at.at) = c.cut-e.ensures ∙ ap (cut_at 44) (rest_is c.args.c.now (c.loop-at.at + 1)) in
-    let number_is : c.small_number-number.result ≡ small_of (read_whole (part_at c.args.c.now c.loop-at.at)) = let rest = rest_at c.args.c.now c.loop-at.at in
-    c.small_number-number.ensures
+    let number_is : c.small_number.result ≡ small_of (read_whole (part_at c.args.c.now c.loop-at.at)) = let rest = rest_at c.args.c.now c.loop-at.at in
+    c.small_number.ensures
     ∙ ap (λ (l : List ℕ). small_of (read_whole (take c.cut-e.result l))) (rest_is c.args.c.now (c.loop-at.at + 1))
     ∙ ap (λ (n : ℕ). small_of (read_whole (take n rest))) end_is in
     let a = c.args in
     let l = c.loop-at in
     column_not a.c.now l.at l.n a.minus l.cells l.invariant.0 c.loop-at-test.true
-    (λ w e. c.in_default.not-Plus w (number_is ∙ e))
+    (λ w e. let z : Some c.in_ok-number.number ≡ Some (Z.Plus w) = sym c.in_ok-number.was ∙ number_is ∙ e in c.in_default.not-Plus w (cc))
 
 pub bounds-cells-n : goal.bounds-cells-n
 bounds-cells-n c = omega (arith, c.loop-at.invariant.0.few, c.loop-at.invariant.0.room)
@@ -86,15 +103,15 @@ loop-at-smaller c =
 pub loop-at-preserved : goal.loop-at-preserved
 loop-at-preserved c =
     let end_is : c.cut-e.result ≡ cut_at 44 (rest_at c.args.c.now c.loop-at.at) = c.cut-e.ensures ∙ ap (cut_at 44) (rest_is c.args.c.now (c.loop-at.at + 1)) in
-    let number_is : c.small_number-number.result ≡ small_of (read_whole (part_at c.args.c.now c.loop-at.at)) = let rest = rest_at c.args.c.now c.loop-at.at in
-    c.small_number-number.ensures
+    let number_is : c.small_number.result ≡ small_of (read_whole (part_at c.args.c.now c.loop-at.at)) = let rest = rest_at c.args.c.now c.loop-at.at in
+    c.small_number.ensures
     ∙ ap (λ (l : List ℕ). small_of (read_whole (take c.cut-e.result l))) (rest_is c.args.c.now (c.loop-at.at + 1))
     ∙ ap (λ (n : ℕ). small_of (read_whole (take n rest))) end_is in
     let a = c.args in
     let l = c.loop-at in
     let w = c.in-Plus.w in
     let k = l.invariant.0 in
-    let plus = sym number_is ∙ c.in-Plus.is in
+    let plus = sym number_is ∙ c.in_ok-number.was ∙ ap Some c.in-Plus.is in
     let few : l.n < 258 = omega (arith, k.few, c.if-n-eq-MOST.false) in (
       subst (λ (e : ℕ). Column a.c.now (l.at + 1 + e) (l.n + 1) a.minus (set l.cells l.n w))
           (sym end_is)

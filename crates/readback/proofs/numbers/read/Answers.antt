@@ -1,5 +1,8 @@
 -- `readback::numbers::read` meets its contract: the first number by its sign, or none that a field holds.
 -- Assumes nothing.
+use Rattle.readback.specs.declared.numbers.Small.TheVariants as Z
+use Rattle.std.proofs.Common.{◌≡◌}
+use Rattle.std.specs.Prelude.{Some}
 use mathlib.Core.Path.{sym, ap, ◌∙◌}
 use Prim.Native.Nat.{ℕ}
 use native.Mathlib.Omega.{arith}
@@ -21,32 +24,36 @@ slice_bounds-small_number-end c =
 
 pub from_first-requires : goal.from_first-requires
 from_first-requires c =
+    let e : c.small_number-first.result ≡ Some c.in-Some-Plus.field-0 = c.in-Some-Plus.is in
+    let f : c.in-Some-Plus.field-0 ≡ Z.Plus c.in-Some-Plus.w = rw c.in-Some-Plus.is at c.in-Some-Plus.field-0-is in
     record {
       room = c.requires;
       numbers = sym c.is_dash.ensures ∙ c.if-is_dash.false;
       ends = c.cut-e.ensures;
-      is = small_plus _ _ (sym c.small_number-first.ensures ∙ c.in-Plus.is);
+      is = small_plus _ _ (sym c.small_number-first.ensures ∙ e ∙ ap Some f);
     }
 
-pub from_first-requires-in-Minus : goal.from_first-requires-in-Minus
-from_first-requires-in-Minus c =
+pub from_first-requires-in-Some-Minus : goal.from_first-requires-in-Some-Minus
+from_first-requires-in-Some-Minus c =
+    let e : c.small_number-first.result ≡ Some c.in-Some-Minus.field-0 = c.in-Some-Minus.is in
+    let f : c.in-Some-Minus.field-0 ≡ Z.Minus c.in-Some-Minus.w = rw c.in-Some-Minus.is at c.in-Some-Minus.field-0-is in
     record {
       room = c.requires;
       numbers = sym c.is_dash.ensures ∙ c.if-is_dash.false;
       ends = c.cut-e.ensures;
-      is = small_minus _ _ (sym c.small_number-first.ensures ∙ c.in-Minus.is);
+      is = small_minus _ _ (sym c.small_number-first.ensures ∙ e ∙ ap Some f);
     }
 
-pub returns-in-Plus : goal.returns-in-Plus
-returns-in-Plus c = c.from_first.ensures
+pub returns-in-Some-Plus : goal.returns-in-Some-Plus
+returns-in-Some-Plus c = c.from_first.ensures
 
-pub returns-in-Minus : goal.returns-in-Minus
-returns-in-Minus c = c.from_first-in-Minus.ensures
+pub returns-in-Some-Minus : goal.returns-in-Some-Minus
+returns-in-Some-Minus c = c.from_first-in-Some-Minus.ensures
 
-pub returns-in-Not : goal.returns-in-Not
-returns-in-Not c =
+pub returns-in-None : goal.returns-in-None
+returns-in-None c =
     let t = c.args.c.now in
-    let is = sym c.in-Not.is ∙ c.small_number-first.ensures
+    let is = sym c.in-None.is ∙ c.small_number-first.ensures
     ∙ ap (λ (n : ℕ). small_of (read_whole (take n t))) c.cut-e.ensures in
     column_none t c.args.cells.now c.requires (sym c.is_dash.ensures ∙ c.if-is_dash.false)
     (sym is)

@@ -1,14 +1,22 @@
 -- `text::listing::list` meets its contract: its first line, and the lines from a cursor on.
 -- Assumes nothing.
+use Rattle.std.specs.Prelude.{◌≡◌, Err}
+use Rattle.std.proofs.lemmas.Grind.{common_steps}
+use Rattle.op.specs.declared.Refusal.TheVariants.{Full}
+use Rattle.op.specs.declared.Table.TheVariants.{Text}
 use mathlib.Core.Path.{sym}
 use native.Mathlib.Omega.{arith}
 use lib.Seq.{length-take-le}
 use Rattle.text.proofs.Listings.{plain_full, plain_first, plain_on, listed_is}
 use Rattle.text.proofs.Progressing.{placed_within}
+use Rattle.text.proofs.Putting.{refused}
 use Rattle.text.proofs.listing.list.Goals as goal
 
-pub returns-in_default : goal.returns-in_default
-returns-in_default c = plain_full c.args.code.now c.args.from c.if-from-eq0.true (rw c.in_default.is at c.first-first.ensures)
+pub returns-in_err-to : goal.returns-in_err-to
+returns-in_err-to c =
+    let p = rw (c.in_err-to.was) at c.first.ensures in
+    let e : c.from_residual.result ≡ Err (Full Text) = grind (arith, common_steps, refused p) in
+    rw e (plain_full c.args.code.now c.args.from c.if-from-eq0.true p)
 
 pub slice_bounds-go_on-end : goal.slice_bounds-go_on-end
 slice_bounds-go_on-end c =
@@ -22,7 +30,7 @@ go_on-requires c =
         small = omega (arith, l.2);
         cells = omega arith;
         fits = placed_within
-            (rw c.in-Behind.is at c.first-first.ensures);
+            (rw (c.in_ok-to.was) at c.first.ensures);
       },
       omega arith,
     )
@@ -30,7 +38,7 @@ go_on-requires c =
 pub returns-then-from-eq0 : goal.returns-then-from-eq0
 returns-then-from-eq0 c =
     plain_first c.args.code.now c.args.from c.listed-size.result c.listed-size.ensures c.if-from-eq0.true
-    (rw c.in-Behind.is at c.first-first.ensures) c.go_on.ensures
+    (rw (c.in_ok-to.was) at c.first.ensures) c.go_on.ensures
 
 pub slice_bounds-go_on-end-2 : goal.slice_bounds-go_on-end-2
 slice_bounds-go_on-end-2 c =

@@ -1,26 +1,27 @@
 -- `text::listing::said` meets its contract: its tests are the definition's.
 -- Assumes nothing.
-use mathlib.Core.Path.{◌≡◌, ap}
-use Prim.Native.Nat.{suc, ◌+◌}
-use native.Mathlib.Omega.{arith}
+use Rattle.std.proofs.Common.{◌≡◌, ℕ, zero, suc, ◌+◌, ◌<◌, Bool, true, false, refl, ap, add-one, arith}
 use borrow.Author.Tests.{le-leb, lt-leb}
 use Rattle.text.specs.Inner.{said_by}
-use Rattle.text.specs.declared.Listed.TheVariants.{Part}
+use Rattle.text.specs.Fitting.{made, no_line, said_of}
+use Rattle.text.specs.declared.lister.Progress.{Progress}
 use Rattle.text.proofs.listing.said.Goals as goal
+use Rattle.text.proofs.listing.said.Goals.{else-p-via-then-p+else-p-eq0, else-p-via-else-p}
 
-pub returns-then-p-gt0 : goal.returns-then-p-gt0
+said_part : (p : Progress) → (p.full ≡ true → 0 < p.to) → made p.to (p.at + 1) ≡ said_by p
 unfolding said_by
-returns-then-p-gt0 c =
-    let n : c.args.p.at + 1 ≡ suc c.args.p.at = omega arith in
-    rw (le-leb 1 c.args.p.to c.if-p-gt0.true) (ap (Part c.args.p.to) n)
+said_part p h = by p.to p.full h
+  where
+    by : (to : ℕ) (f : Bool) → (f ≡ true → 0 < to) → made to (p.at + 1) ≡ said_of to (no_line (suc p.at) f)
+    by zero true h = let z : ⊥ = omega (arith, h refl) in absurd z
+    by zero false h = ap (made 0) (add-one p.at)
+    by (suc n) f h = rw (le-leb 1 (suc n) (omega arith)) (ap (made (suc n)) (add-one p.at))
 
-pub returns-then-p : goal.returns-then-p
+pub returns-then-p-eq0 : goal.returns-then-p-eq0
 unfolding said_by
-returns-then-p c = rw (lt-leb 1 c.args.p.to (omega (arith, c.if-p-gt0.false)), c.if-p.true)
+returns-then-p-eq0 c = rw (lt-leb 1 c.args.p.to (omega (arith, c.if-p-eq0.true)), c.if-p.true)
 
 pub returns : goal.returns
-unfolding said_by
 returns c =
-    let n : c.args.p.at + 1 ≡ suc c.args.p.at = omega arith in
-    rw (lt-leb 1 c.args.p.to (omega (arith, c.if-p-gt0.false)), c.if-p.false)
-    (ap (Part c.args.p.to) n)
+    let p = c.args.p in
+    said_part p (λ h. elim c.else-p.branch [ else-p-via-then-p+else-p-eq0 w ↦ omega (arith, w.if-p-eq0.false) | else-p-via-else-p w ↦ cc ])

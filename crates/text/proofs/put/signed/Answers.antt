@@ -6,5 +6,5 @@ use Rattle.text.proofs.put.signed.Goals as goal
 
 pub returns : goal.returns
 returns c =
-    same_places (sign_whole c.args.z c.magnitude.result c.ranges.z
-    c.magnitude.ensures) c.number.ensures
+    same_places (sign_whole c.args.z c.unsigned_abs.result c.ranges.z
+    c.unsigned_abs.ensures.value) c.number.ensures

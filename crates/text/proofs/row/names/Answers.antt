@@ -1,39 +1,31 @@
--- `text::row::names` meets its contract: at each turn what is left is the names from the i-th byte on. The measure is
--- the bytes left.
+-- `text::row::names` meets its contract: at each turn what is left is the names behind the words so far.
 -- Assumes nothing.
-use mathlib.Core.List.{◌∷◌}
-use Prim.Native.Nat.{◌+◌}
-use native.Mathlib.Omega.{arith}
-use lib.ListN.{drop}
+use Rattle.std.proofs.Common.{◌≡◌, ◌+◌, ◌*◌, ◌∷◌, drop, ◌∙◌, arith}
 use Rattle.text.specs.Decimal.{decimal}
 use Rattle.text.specs.Fields.{names_text}
-use Rattle.text.proofs.Names.{names_turn, names_done}
-use Rattle.text.proofs.Putting.{begin, next, left_length, part_fits}
+use Rattle.text.proofs.Names.{word_is, names_turn, names_done}
+use Rattle.text.proofs.Putting.{next, part_fits}
 use Rattle.text.proofs.row.names.Goals as goal
-
-pub loop-i-init : goal.loop-i-init
-loop-i-init c = (omega arith, begin _ _ _)
 
 pub more-o-requires : goal.more-o-requires
 more-o-requires c =
-    let l = c.loop-i in
-    let w = c.word_at in
-    part_fits (44 ∷ decimal w.result) (names_text (drop (l.i + 2) c.args.bytes.now))
-    (names_turn c.args.bytes.now l.i w.result c.loop-i-test.true w.ensures l.invariant.1)
-    c.requires
+    let s = c.args.bytes.now in
+    let i = c.loop-word.word-index in
+    let w = c.from.result in
+    let front = c.as_chunks.ensures.front in
+    let word = word_is _ s i w front (omega arith) (c.from.ensures ∙ c.from_le_bytes.ensures) in
+    part_fits (44 ∷ decimal w) (names_text (drop (2 * i + 2) s))
+    (names_turn s (2 * i) w (omega arith) word c.loop-word.invariant) c.requires
 
-pub loop-i-preserved : goal.loop-i-preserved
-loop-i-preserved c =
-    let l = c.loop-i in
-    let a = c.args in
-    let w = c.word_at in (
-      omega arith,
-      next (names_turn a.bytes.now l.i w.result c.loop-i-test.true w.ensures l.invariant.1)
-          c.more-o.ensures,
-    )
-
-pub shape_of-out : goal.shape_of-out
-shape_of-out c = left_length c.loop-i.invariant.1
+pub loop-word-preserved : goal.loop-word-preserved
+loop-word-preserved c =
+    let s = c.args.bytes.now in
+    let i = c.loop-word.word-index in
+    let w = c.from.result in
+    let front = c.as_chunks.ensures.front in
+    let word = word_is _ s i w front (omega arith) (c.from.ensures ∙ c.from_le_bytes.ensures) in
+    let e : 2 * i + 2 ≡ 2 * (i + 1) = omega arith in
+    rw e at (next (names_turn s (2 * i) w (omega arith) word c.loop-word.invariant) c.more-o.ensures)
 
 pub returns : goal.returns
-returns c = names_done c.args.bytes.now c.loop-i.i (omega arith) c.loop-i.invariant.1
+returns c = names_done c.args.bytes.now (2 * c.loop-word.word-index) (omega arith) c.loop-word.invariant

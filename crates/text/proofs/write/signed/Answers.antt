@@ -11,12 +11,12 @@ pub number-requires : goal.number-requires
 number-requires c =
     omega (
       arith,
-      ap length (sign_whole c.args.z c.magnitude.result c.ranges.z
-          c.magnitude.ensures),
+      ap length (sign_whole c.args.z c.unsigned_abs.result c.ranges.z
+          c.unsigned_abs.ensures.value),
       c.requires,
     )
 
 pub returns : goal.returns
 returns c =
-    same_text (sign_whole c.args.z c.magnitude.result c.ranges.z
-    c.magnitude.ensures) c.number.ensures
+    same_text (sign_whole c.args.z c.unsigned_abs.result c.ranges.z
+    c.unsigned_abs.ensures.value) c.number.ensures
