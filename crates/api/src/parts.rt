@@ -10,13 +10,8 @@ pub fn tell_part(listed: Listed, out: &mut [u64]) -> u64
     ensures { Tells (part_told listed) out.old result out.new }
 {
     match listed {
-        Listed::Part { length, next } => {
-            if 0 < length {
-                let given = [length as u64, next as u64];
-                return cells::tell(&given, out);
-            }
-            0
-        }
+        Listed::Part { length: 0, .. } => 0,
+        Listed::Part { length, next } => cells::tell(&[length as u64, next as u64], out),
         Listed::Refused(refusal) => answers::refused(refusal),
     }
 }

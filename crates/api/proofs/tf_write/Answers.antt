@@ -2,7 +2,7 @@
 -- Assumes nothing.
 use mathlib.Core.Path.{◌∙◌, ap}
 use Rattle.api.specs.Answers.{refused}
-use Rattle.api.proofs.Writes.{writes_many, writes_as}
+use Rattle.api.proofs.Writes.{writes_many}
 use Rattle.api.proofs.tf_write.Goals as goal
 
 pub returns-then-names-gt255 : goal.returns-then-names-gt255
@@ -10,6 +10,3 @@ returns-then-names-gt255 c =
     let a = c.args in
     writes_many a.opcode _ a.names.now a.out.now _ c.if-names-gt255.true
     (c.refused.ensures ∙ ap refused c.no_write.ensures)
-
-pub returns : goal.returns
-returns c = writes_as _ _ _ _ _ _ _ c.operand.ensures c.write.ensures
