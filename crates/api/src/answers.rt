@@ -1,6 +1,6 @@
 // Answers as numbers.
 ghost use Rattle.std.specs.Prelude.{◌≡◌, ◌%◌};
-ghost use Rattle.op.specs.Effects.{net_of, Small};
+ghost use Rattle.op.specs.Effects.{net_of};
 ghost use Rattle.op.specs.Refusals.{half};
 ghost use Rattle.op.specs.declared.AssertFlags.TheVariants.{Valid};
 ghost use Rattle.api.specs.Answers.{refused, net_answer, depth_answer};
@@ -21,7 +21,6 @@ pub fn refused(refusal: Refusal) -> u64
 
 // An effect's answer.
 pub fn of_effect(effect: Effect) -> u64
-    requires { Small effect }
     ensures { result ≡ net_answer (net_of effect) }
 {
     match effect {

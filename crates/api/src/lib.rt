@@ -122,20 +122,21 @@ pub fn tf_opcode_name(opcode: u8, out: &mut [u8]) -> u64
 pub fn tf_assert_flags(comparison: u8) -> u8
     ensures { result ≡ flags_given comparison }
 {
-    match comparison {
-        0 => op::flags::assert_flags(Compared::With(CmpOperator::Eq)),
-        1 => op::flags::assert_flags(Compared::With(CmpOperator::NotEq)),
-        2 => op::flags::assert_flags(Compared::With(CmpOperator::Lt)),
-        3 => op::flags::assert_flags(Compared::With(CmpOperator::LtE)),
-        4 => op::flags::assert_flags(Compared::With(CmpOperator::Gt)),
-        5 => op::flags::assert_flags(Compared::With(CmpOperator::GtE)),
-        6 => op::flags::assert_flags(Compared::With(CmpOperator::Is)),
-        7 => op::flags::assert_flags(Compared::With(CmpOperator::IsNot)),
-        8 => op::flags::assert_flags(Compared::With(CmpOperator::In)),
-        9 => op::flags::assert_flags(Compared::With(CmpOperator::NotIn)),
-        10 => op::flags::assert_flags(Compared::Nothing),
-        _ => 255,
-    }
+    let operator = match comparison {
+        0 => CmpOperator::Eq,
+        1 => CmpOperator::NotEq,
+        2 => CmpOperator::Lt,
+        3 => CmpOperator::LtE,
+        4 => CmpOperator::Gt,
+        5 => CmpOperator::GtE,
+        6 => CmpOperator::Is,
+        7 => CmpOperator::IsNot,
+        8 => CmpOperator::In,
+        9 => CmpOperator::NotIn,
+        10 => return op::flags::assert_flags(Compared::Nothing),
+        _ => return 255,
+    };
+    op::flags::assert_flags(Compared::With(operator))
 }
 
 pub fn tf_decode_assert_flags(flags: u8) -> u8
@@ -191,15 +192,10 @@ pub fn tf_write(out: &mut [u8], opcode: u8, shape: u8, a: u16, b: u16, c: u8, na
     ensures { WritesGiven opcode (given_of shape a b c (length names.now)) names.now
         out.old result out.new }
 {
-    if 255 < names.len() {
+    let Ok(count) = u8::try_from(names.len()) else {
         return answers::refused(steps::no_write(opcode, names.len()));
-    }
-    steps::write(
-        out,
-        opcode,
-        operands::operand(shape, a, b, c, names.len() as u8),
-        names,
-    )
+    };
+    steps::write(out, opcode, operands::operand(shape, a, b, c, count), names)
 }
 
 pub fn tf_check(

@@ -1,6 +1,5 @@
 // Operands given as numbers.
 ghost use Rattle.std.specs.Prelude.{◌≡◌, cond, ltb};
-ghost use Rattle.op.specs.Effects.{Small};
 ghost use Rattle.api.specs.Given.{given_of, unshaped, effect_given, after_given};
 
 use code::signs;
@@ -55,7 +54,7 @@ fn no_operand(opcode: u8) -> Refusal
 
 // The effect with a given operand.
 pub fn effect(opcode: u8, given: Option<Operand>) -> Effect
-    ensures { (result ≡ effect_given opcode given) × Small result }
+    ensures { result ≡ effect_given opcode given }
 {
     match given {
         Some(operand) => op::effects::effect(opcode, operand),

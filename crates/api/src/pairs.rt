@@ -9,7 +9,7 @@ use crate::{answers, tables};
 use code::{ExceptionEntry, Found, HandlerKind, HandlerRow};
 use op::Refusal;
 
-// A kind by its number, if it is one.
+// A kind by its number, if it is one. The types here are crate `code`'s, so these are no `From` and no `TryFrom`.
 fn kind_of(number: u32) -> Option<HandlerKind>
     ensures { result ≡ cond (leb number 1) (Some (kind_of number)) None }
 {

@@ -80,6 +80,7 @@ pub fn state_in(cells: &[u64]) -> Option<Builder>
     })
 }
 
+// These types are other crates', as `From` and `TryFrom` are, so a function reads each.
 pub fn label_in(number: u64) -> JumpLabel
     ensures { result ≡ label_in number }
 {

@@ -10,6 +10,8 @@ use builder::{Answer, Builder, Depth, JumpLabel, JumpTarget, Location};
 use code::Focus;
 use op::refusals;
 
+// The numbers of three types. They are crate `builder`'s, as `From` is std's, so a crate above both has functions for it; one
+// for the two rows would need a trait, which is no plainer.
 pub fn depth_number(depth: Depth) -> u64
     ensures { result ≡ depth_number depth }
 {
