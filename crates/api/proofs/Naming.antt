@@ -1,4 +1,4 @@
--- Laws of the exported name: unknown, too little room, written.
+-- Laws of the exported name: too little room, written.
 -- Assumes nothing.
 use mathlib.Core.Path.{◌≡◌, ap, ◌∙◌}
 use mathlib.Core.List.{List}
@@ -8,17 +8,12 @@ use lib.ListN.{length}
 use borrow.Author.Tests.{lt-leb, le-leb}
 use Rattle.op.specs.Opcodes.{last_opcode, known}
 use Rattle.op.specs.Names.{name_of, name_text, name_starts, name_by}
-use Rattle.op.specs.declared.Refusal.TheVariants.{UnknownOpcode, Full}
+use Rattle.op.specs.declared.Refusal.TheVariants.{Full}
 use Rattle.op.specs.declared.Table.TheVariants.{Text}
 use Rattle.op.proofs.Listed.{rows}
 use Rattle.op.proofs.Named.{name_by_lem}
 use Rattle.code.specs.Bytes.{front}
 use Rattle.api.specs.Answers.{refused, name_answer, name_cells}
-
-pub name_unknown : (k : ℕ) (out : List ℕ) → last_opcode < k
-    → (refused UnknownOpcode ≡ name_answer k (length out)) × (out ≡ name_cells k out)
-unfolding known name_answer name_cells
-name_unknown k out h = (simp (lt-leb k last_opcode h), simp (lt-leb k last_opcode h))
 
 -- what `of_opcode` answers over the two tables is the name
 pub name_is : (k : ℕ) (name text starts : List ℕ) → k ≤ last_opcode → name ≡ name_by text starts k → text ≡ name_text

@@ -1,9 +1,10 @@
 -- Laws of the step's eight cells. They give the operand back: what a step tells is what `tf_stack_effect` and
 -- `tf_write` take.
 -- Assumes nothing.
+use Rattle.std.specs.Prelude.{Some, Option}
 use mathlib.Core.Path.{◌≡◌, refl, sym, ap, ◌∙◌}
-use mathlib.Core.List.{List, [], ◌∷◌}
-use Prim.Native.Nat.{ℕ, ◌+◌, ◌-◌, ◌*◌, ◌<◌}
+use mathlib.Core.List.{List}
+use Prim.Native.Nat.{ℕ, ◌<◌}
 use lib.IntN.{ℤ}
 use lib.ListN.{get_or}
 use mir.Syntax.{w8, w16}
@@ -11,7 +12,6 @@ use Rattle.op.specs.Opcodes.{last_opcode}
 use Rattle.op.specs.Shapes.{shape_number, operand_shape}
 use Rattle.op.specs.declared.Operand.{Operand}
 use Rattle.op.specs.declared.Operand.TheVariants as O
-use Rattle.op.specs.declared.Shape.{Shape}
 use Rattle.code.specs.Bytes.{signed, unsigned}
 use Rattle.code.specs.Decode.{names_in, decode}
 use Rattle.code.specs.declared.Step.TheVariants.{Instr}
@@ -19,42 +19,32 @@ use Rattle.code.proofs.Decoding.{decoded}
 use Rattle.code.proofs.Ranges.{InRange, decoded_range}
 use Rattle.code.proofs.Twos.{unsigned_small, signed_unsigned}
 use Rattle.api.specs.Given.{given_of}
-use Rattle.api.specs.Told.{numbers}
-use Rattle.api.specs.Steps.{values_of, step_told}
-use Rattle.api.specs.declared.Given.{Given}
-use Rattle.api.specs.declared.Given.TheVariants.{Is}
-use Rattle.api.specs.declared.Values.{Values}
+use Rattle.api.specs.Steps.{values_of}
 use Rattle.api.proofs.Givens.{fits}
 
--- the cells by what the callees answered
-pub instruction_by : (at k : ℕ) (o : Operand) (z : ℕ) (v : Values) (s : Shape) (i n : ℕ)
-    → v ≡ values_of o → s ≡ operand_shape o → i ≡ shape_number s → n ≡ names_in o
-    → numbers (k ∷ z ∷ i ∷ v.a ∷ v.b ∷ v.c ∷ n ∷ (at + z - 2 * n) ∷ []) ≡ step_told at (Instr k o z)
-instruction_by at k o z v s i n ev es ei en = rw (ev, ei, es, en)
-
 -- an operand from its numbers
-abbrev pub regiven : Operand → Given
+abbrev pub regiven : Operand → Option Operand
 regiven o = given_of (shape_number (operand_shape o)) (values_of o).a (values_of o).b (values_of o).c (names_in o)
 
 -- the numbers of an operand give it back
-pub given_back : (o : Operand) → InRange o → regiven o ≡ Is o
+pub given_back : (o : Operand) → InRange o → regiven o ≡ Some o
 unfolding given_of
 given_back O.None h = refl
-given_back (O.U8 a) h = sym (fits a (Is (O.U8 a)) h)
+given_back (O.U8 a) h = sym (fits a (Some (O.U8 a)) h)
 given_back (O.I8 z) h =
-    sym (fits (unsigned 256 z) (Is (O.I8 (signed 256 (unsigned 256 z)))) (unsigned_small w8 256 refl refl z h))
-    ∙ ap (λ (x : ℤ). Is (O.I8 x)) (signed_unsigned w8 256 refl refl z h)
+    sym (fits (unsigned 256 z) (Some (O.I8 (signed 256 (unsigned 256 z)))) (unsigned_small w8 256 refl refl z h))
+    ∙ ap (λ (x : ℤ). Some (O.I8 x)) (signed_unsigned w8 256 refl refl z h)
 given_back (O.U16 a) h = refl
-given_back (O.Offset z) h = ap (λ (x : ℤ). Is (O.Offset x)) (signed_unsigned w16 65536 refl refl z h)
-given_back (O.U8U8 a b) h = sym (fits b (Is (O.U8U8 a b)) h.1 ∙ fits a _ h.0)
-given_back (O.U16U8 a b) h = sym (fits b (Is (O.U16U8 a b)) h.1)
+given_back (O.Offset z) h = ap (λ (x : ℤ). Some (O.Offset x)) (signed_unsigned w16 65536 refl refl z h)
+given_back (O.U8U8 a b) h = sym (fits b (Some (O.U8U8 a b)) h.1 ∙ fits a _ h.0)
+given_back (O.U16U8 a b) h = sym (fits b (Some (O.U16U8 a b)) h.1)
 given_back (O.U16U16 a b) h = refl
-given_back (O.U16U8U8 a b c) h = sym (fits b (Is (O.U16U8U8 a b c)) h.1)
-given_back (O.CallKw positional n) h = sym (fits positional (Is (O.CallKw positional n)) h.0)
-given_back (O.CallAttrKw attribute positional n) h = sym (fits positional (Is (O.CallAttrKw attribute positional n)) h.1)
+given_back (O.U16U8U8 a b c) h = sym (fits b (Some (O.U16U8U8 a b c)) h.1)
+given_back (O.CallKw positional n) h = sym (fits positional (Some (O.CallKw positional n)) h.0)
+given_back (O.CallAttrKw attribute positional n) h = sym (fits positional (Some (O.CallAttrKw attribute positional n)) h.1)
 given_back (O.U16U16U8 a b c) h = refl
 
 -- so do those that a step tells
 pub step_given : (u : List ℕ) → ((i : ℕ) → get_or u i 0 < 256) → (at k : ℕ) (o : Operand) (z : ℕ)
-    → decode last_opcode at u ≡ Instr k o z → regiven o ≡ Is o
+    → decode last_opcode at u ≡ Instr k o z → regiven o ≡ Some o
 step_given u bytes at k o z e = given_back o (decoded_range u bytes k o z (decoded _ at u k o z e))

@@ -1,5 +1,6 @@
 -- Laws of the writer over a given operand, and that a step tells what was written.
 -- Assumes nothing.
+use Rattle.std.specs.Prelude.{Some, None, Option}
 use mathlib.Core.Path.{◌≡◌, refl, sym, ap, ◌∙◌}
 use mathlib.Core.Bool.{Bool, true, false, cond}
 use mathlib.Core.List.{List}
@@ -19,8 +20,6 @@ use Rattle.code.proofs.Writing.{written_unknown, written_many, goes, written_dec
 use Rattle.api.specs.Answers.{refused}
 use Rattle.api.specs.Steps.{unwritten, written_answer, WritesGiven, instruction, step_told}
 use Rattle.api.specs.Told.{numbers}
-use Rattle.api.specs.declared.Given.{Given}
-use Rattle.api.specs.declared.Given.TheVariants as G
 
 -- over 255 names: 1, then 7
 many : (k n : ℕ) → 255 < n → unwritten k n ≡ cond (known k) TooManyKeywords UnknownOpcode
@@ -36,25 +35,20 @@ module _ (k : ℕ) (o : Operand) (n room : ℕ) (h : 255 < n) where
   many_written = ap W.Refused (many k n h) ∙ by_known (known k) refl
 
 -- over 255 names nothing is written, whatever is given
-pub writes_many : (k : ℕ) (g : Given) (names out : List ℕ) (answer : ℕ) → 255 < length names
+pub writes_many : (k : ℕ) (g : Option Operand) (names out : List ℕ) (answer : ℕ) → 255 < length names
     → answer ≡ refused (unwritten k (length names))
     → WritesGiven k g names out answer out
-writes_many k (G.Is o) names out answer h e =
+writes_many k (Some o) names out answer h e =
     let w = many_written k o (length names) (length out) h in
     record {
       answers = e ∙ ap written_answer w;
       cells = ap (λ (x : Written). filled x (encode k o names) out) w;
     }
-writes_many k G.Nothing names out answer h e = record { answers = e; cells = refl }
-
--- the same for an equal operand
-pub writes_as : (k : ℕ) (g g' : Given) (names out : List ℕ) (answer : ℕ) (out' : List ℕ) → g ≡ g'
-    → WritesGiven k g names out answer out' → WritesGiven k g' names out answer out'
-writes_as k g g' names out answer out' e h = rw e at h
+writes_many k None names out answer h e = record { answers = e; cells = refl }
 
 -- what was written, a step tells, wherever it is read
 pub written_told : (k : ℕ) (o : Operand) (names out : List ℕ) (answer : ℕ) (out' : List ℕ) (z : ℕ)
-    → WritesGiven k (G.Is o) names out answer out'
+    → WritesGiven k (Some o) names out answer out'
     → written_of k o (length names) (length out) ≡ W.Size z → SignsFit o → (at : ℕ)
     → step_told at (decode last_opcode at out') ≡ numbers (instruction at k o z)
 written_told k o names out answer out' z w e signs at =

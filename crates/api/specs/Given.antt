@@ -1,6 +1,7 @@
 -- An operand and a comparison given as numbers.
 -- Assumes nothing.
-use Rattle.std.specs.Prelude.{cond, List, [], ◌∷◌, ℕ, ltb, get_or}
+use Rattle.op.specs.declared.Operand.{Operand}
+use Rattle.std.specs.Prelude.{cond, List, [], ◌∷◌, ℕ, ltb, get_or, Some, None, Option}
 use Rattle.op.specs.Depths.{after_of}
 use Rattle.op.specs.Effects.{effect_of}
 use Rattle.op.specs.Flags.{comparison_number, flags_of}
@@ -17,47 +18,45 @@ use Rattle.op.specs.declared.Operand.TheVariants as O
 use Rattle.op.specs.declared.Refusal.{Refusal}
 use Rattle.op.specs.declared.Refusal.TheVariants.{UnknownOpcode, WrongShape}
 use Rattle.code.specs.Bytes.{signed}
-use Rattle.api.specs.declared.Given.{Given}
-use Rattle.api.specs.declared.Given.TheVariants as G
 
 -- an operand's number that has to fit a byte
-abbrev pub byte : ℕ → Given → Given
-byte x o = cond (ltb x 256) o G.Nothing
+abbrev pub byte : ℕ → Option Operand → Option Operand
+byte x o = cond (ltb x 256) o None
 
 -- the operands of the twelve shapes with the values a, b, c and so many names; nothing where a value is too large for
 -- its field
-abbrev pub operands : ℕ → ℕ → ℕ → ℕ → List Given
+abbrev pub operands : ℕ → ℕ → ℕ → ℕ → List (Option Operand)
 operands a b c names =
-    G.Is O.None ∷
-    byte a (G.Is (O.U8 a)) ∷
-    byte a (G.Is (O.I8 (signed 256 a))) ∷
-    G.Is (O.U16 a) ∷
-    G.Is (O.Offset (signed 65536 a)) ∷
-    byte a (byte b (G.Is (O.U8U8 a b))) ∷
-    byte b (G.Is (O.U16U8 a b)) ∷
-    G.Is (O.U16U16 a b) ∷
-    byte b (G.Is (O.U16U8U8 a b c)) ∷
-    byte a (G.Is (O.CallKw a names)) ∷
-    byte b (G.Is (O.CallAttrKw a b names)) ∷
-    G.Is (O.U16U16U8 a b c) ∷ []
+    Some O.None ∷
+    byte a (Some (O.U8 a)) ∷
+    byte a (Some (O.I8 (signed 256 a))) ∷
+    Some (O.U16 a) ∷
+    Some (O.Offset (signed 65536 a)) ∷
+    byte a (byte b (Some (O.U8U8 a b))) ∷
+    byte b (Some (O.U16U8 a b)) ∷
+    Some (O.U16U16 a b) ∷
+    byte b (Some (O.U16U8U8 a b c)) ∷
+    byte a (Some (O.CallKw a names)) ∷
+    byte b (Some (O.CallAttrKw a b names)) ∷
+    Some (O.U16U16U8 a b c) ∷ []
 
 -- the operand of a shape's number
-unfoldable pub given_of : ℕ → ℕ → ℕ → ℕ → ℕ → Given
-given_of shape a b c names = get_or (operands a b c names) shape G.Nothing
+unfoldable pub given_of : ℕ → ℕ → ℕ → ℕ → ℕ → Option Operand
+given_of shape a b c names = get_or (operands a b c names) shape None
 
 -- what is refused where there is no operand: 1, then 2
 abbrev pub unshaped : ℕ → Refusal
 unshaped k = cond (known k) WrongShape UnknownOpcode
 
 -- the effect with a given operand
-abbrev pub effect_given : ℕ → Given → Effect
-effect_given k (G.Is o) = effect_of k o
-effect_given k G.Nothing = E.Refused (unshaped k)
+abbrev pub effect_given : ℕ → Option Operand → Effect
+effect_given k (Some o) = effect_of k o
+effect_given k None = E.Refused (unshaped k)
 
 -- the depth after falling through with a given operand
-abbrev pub after_given : ℕ → ℕ → Given → After
-after_given d k (G.Is o) = after_of d k o
-after_given d k G.Nothing = A.Refused (unshaped k)
+abbrev pub after_given : ℕ → ℕ → Option Operand → After
+after_given d k (Some o) = after_of d k o
+after_given d k None = A.Refused (unshaped k)
 
 -- the flags bytes of the comparisons in the order of their numbers, then of none
 abbrev pub flag_bytes : List ℕ

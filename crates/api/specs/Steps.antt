@@ -1,6 +1,6 @@
 -- What a step of the decoder tells, and the writer's answer for an operand given as numbers.
 -- Assumes nothing.
-use Rattle.std.specs.Prelude.{◌≡◌, cond, List, [], ◌∷◌, ℕ, ◌+◌, ◌-◌, ◌*◌, leb, length}
+use Rattle.std.specs.Prelude.{◌≡◌, cond, List, [], ◌∷◌, ℕ, ◌+◌, ◌-◌, ◌*◌, leb, length, Some, None, Option}
 use Rattle.op.specs.Opcodes.{known}
 use Rattle.op.specs.Shapes.{shape_number, operand_shape}
 use Rattle.op.specs.declared.Operand.{Operand}
@@ -16,8 +16,6 @@ use Rattle.code.specs.declared.Written.{Written}
 use Rattle.code.specs.declared.Written.TheVariants as W
 use Rattle.api.specs.Answers.{refused}
 use Rattle.api.specs.Told.{Told, numbers, nothing, refusal}
-use Rattle.api.specs.declared.Given.{Given}
-use Rattle.api.specs.declared.Given.TheVariants as G
 use Rattle.api.specs.declared.Values.{Values}
 
 -- three values
@@ -62,14 +60,14 @@ abbrev pub unwritten : ℕ → ℕ → Refusal
 unwritten k n = cond (known k) (cond (leb n 255) WrongShape TooManyKeywords) UnknownOpcode
 
 -- the writer's answer for a given operand, n names and so many bytes of room
-abbrev pub written_given : ℕ → Given → ℕ → ℕ → Written
-written_given k (G.Is o) n room = written_of k o n room
-written_given k G.Nothing n room = W.Refused (unwritten k n)
+abbrev pub written_given : ℕ → Option Operand → ℕ → ℕ → Written
+written_given k (Some o) n room = written_of k o n room
+written_given k None n room = W.Refused (unwritten k n)
 
 -- the bytes that were lent to it
-abbrev pub filled_given : ℕ → Given → List ℕ → List ℕ → List ℕ
-filled_given k (G.Is o) names out = filled (written_of k o (length names) (length out)) (encode k o names) out
-filled_given k G.Nothing names out = out
+abbrev pub filled_given : ℕ → Option Operand → List ℕ → List ℕ → List ℕ
+filled_given k (Some o) names out = filled (written_of k o (length names) (length out)) (encode k o names) out
+filled_given k None names out = out
 
 -- the instruction's size
 abbrev pub written_answer : Written → ℕ
@@ -77,6 +75,6 @@ written_answer (W.Size size) = size
 written_answer (W.Refused r) = refused r
 
 -- the answer, and every byte that was lent
-pub record WritesGiven (k : ℕ) (g : Given) (names out : List ℕ) (answer : ℕ) (out' : List ℕ) : Type 0 where
+pub record WritesGiven (k : ℕ) (g : Option Operand) (names out : List ℕ) (answer : ℕ) (out' : List ℕ) : Type 0 where
   pub answers : answer ≡ written_answer (written_given k g (length names) (length out))
   pub cells : out' ≡ filled_given k g names out

@@ -1,9 +1,8 @@
 // Answers as numbers.
-ghost use Rattle.std.specs.Prelude.{◌≡◌, ◌≤◌, ◌%◌, length};
-ghost use Rattle.op.specs.Effects.{net_of, Small};
+ghost use Rattle.std.specs.Prelude.{◌≡◌, ◌%◌};
+ghost use Rattle.op.specs.Effects.{net_of};
 ghost use Rattle.op.specs.Refusals.{half};
 ghost use Rattle.op.specs.declared.AssertFlags.TheVariants.{Valid};
-ghost use Rattle.code.specs.Bytes.{front};
 ghost use Rattle.api.specs.Answers.{refused, net_answer, depth_answer};
 ghost use Rattle.api.specs.Checks.{check_answer, greatest_told};
 ghost use Rattle.api.specs.Given.{flags_answer};
@@ -22,11 +21,10 @@ pub fn refused(refusal: Refusal) -> u64
 
 // An effect's answer.
 pub fn of_effect(effect: Effect) -> u64
-    requires { Small effect }
     ensures { result ≡ net_answer (net_of effect) }
 {
     match effect {
-        Effect::By { up, down } => (up as u64 + 0x1_0000_0000 - down as u64) % 0x1_0000_0000,
+        Effect::By { up, down } => u64::from(up.wrapping_sub(down)),
         Effect::Refused(refusal) => refused(refusal),
     }
 }
@@ -85,18 +83,4 @@ pub fn of_compared(compared: Compared) -> u8
         Compared::Nothing => 10,
         Compared::With(operator) => op::flags::as_operand(operator),
     }
-}
-
-// All of a text to the front of a slice; answers its length.
-pub fn copy(text: &[u8], out: &mut [u8]) -> u64
-    requires { length text.now ≤ length out.old }
-    ensures { (result ≡ length text.now)
-        × (out.new ≡ front text.now out.old) }
-{
-    let mut i = 0;
-    while i < text.len() {
-        out[i] = text[i];
-        i += 1;
-    }
-    i as u64
 }

@@ -1,7 +1,7 @@
 // The opcode rules, the decoder's step, the instruction writer, the depth checker and the lookups, on numbers and slices of
 // numbers: what C and Rust call by way of crate tokenfinch, which exports these functions with their promises.
 // include/tokenfinch.h declares them and says in words what they promise here.
-#![tactic(auto)]
+#![tactic(auto, unfolding(crate::specs::Told::told_answer, crate::specs::Told::told_cells))]
 
 ghost use Rattle.std.specs.Prelude.{◌≡◌, length, drop};
 ghost use Rattle.op.specs.Opcodes.{last_opcode};
@@ -26,8 +26,8 @@ ghost use Rattle.api.specs.Typed.{ReadsTold};
 ghost use Rattle.api.specs.Steps.{step_told, WritesGiven};
 ghost use Rattle.api.specs.Tables.{located_told, handled_told, constant_told, name_told};
 
-use code::{CODE_LIMIT, Constant, Count, ExceptionEntry, Handled, LocalName, Located, Step};
-use op::{AssertFlags, CmpOperator, Compared, Deadness, Operand, Refusal, Shaped, Table};
+use code::{CODE_LIMIT, Constant, Count, Handled, LocalName, Located, Step};
+use op::{AssertFlags, CmpOperator, Compared, Deadness, Refusal, Shaped, Table};
 use text::listing;
 
 mod answers;
@@ -40,22 +40,8 @@ mod reasons;
 mod steps;
 mod tables;
 
-// An operand given as numbers, or that there is none.
-#[derive(Clone, Copy)]
-pub enum Given {
-    Is(Operand),
-    Nothing,
-}
-
-// A record given as numbers, or that there is none.
-#[derive(Clone, Copy)]
-pub enum Entered {
-    Is(ExceptionEntry),
-    Nothing,
-}
-
-// An operand's values in byte order, without the keyword count.
-#[derive(Clone, Copy)]
+// An operand's values in byte order, without the keyword count; what is not there is 0.
+#[derive(Clone, Copy, Default)]
 pub struct Values {
     pub a: u16,
     pub b: u16,
@@ -65,8 +51,7 @@ pub struct Values {
 pub fn tf_operand_shape(opcode: u8) -> u64
     ensures { result ≡ shape_answer (shape_of opcode) }
 {
-    let shaped = op::shapes::operand_shape(opcode);
-    match shaped {
+    match op::shapes::operand_shape(opcode) {
         Shaped::Is(shape) => op::shapes::number(shape) as u64,
         Shaped::Refused(refusal) => answers::refused(refusal),
     }
@@ -87,8 +72,7 @@ pub fn tf_jump_taken_stack_effect(opcode: u8) -> u64
 pub fn tf_makes_dead(opcode: u8) -> u64
     ensures { result ≡ dead_answer (deadness_of opcode) }
 {
-    let deadness = op::effects::makes_dead(opcode);
-    match deadness {
+    match op::effects::makes_dead(opcode) {
         Deadness::Dead => 1,
         Deadness::Live => 0,
         Deadness::Refused(refusal) => answers::refused(refusal),
@@ -110,13 +94,13 @@ pub fn tf_depth_taken(depth: u16, opcode: u8) -> u64
 pub fn tf_instruction_size(opcode: u8, names: u8) -> u64
     ensures { result ≡ size_answer (shape_of opcode) names }
 {
-    let shaped = op::shapes::operand_shape(opcode);
-    match shaped {
+    match op::shapes::operand_shape(opcode) {
         Shaped::Is(shape) => op::shapes::instruction_size(shape, names) as u64,
         Shaped::Refused(refusal) => answers::refused(refusal),
     }
 }
 
+#[tactic(auto, unfolding(crate::specs::Answers::name_answer, crate::specs::Answers::name_cells, op::specs::Opcodes::known))]
 pub fn tf_opcode_name(opcode: u8, out: &mut [u8]) -> u64
     ensures { (result ≡ name_answer opcode (length out.old))
         × (out.new ≡ name_cells opcode out.old) }
@@ -130,33 +114,35 @@ pub fn tf_opcode_name(opcode: u8, out: &mut [u8]) -> u64
     if out.len() < name.len() {
         return answers::refused(Refusal::Full(Table::Text));
     }
-    answers::copy(name, out)
+    out[..name.len()].copy_from_slice(name);
+    name.len() as u64
 }
 
+#[tactic(auto, unfolding(crate::specs::Given::flags_given))]
 pub fn tf_assert_flags(comparison: u8) -> u8
     ensures { result ≡ flags_given comparison }
 {
-    match comparison {
-        0 => op::flags::assert_flags(Compared::With(CmpOperator::Eq)),
-        1 => op::flags::assert_flags(Compared::With(CmpOperator::NotEq)),
-        2 => op::flags::assert_flags(Compared::With(CmpOperator::Lt)),
-        3 => op::flags::assert_flags(Compared::With(CmpOperator::LtE)),
-        4 => op::flags::assert_flags(Compared::With(CmpOperator::Gt)),
-        5 => op::flags::assert_flags(Compared::With(CmpOperator::GtE)),
-        6 => op::flags::assert_flags(Compared::With(CmpOperator::Is)),
-        7 => op::flags::assert_flags(Compared::With(CmpOperator::IsNot)),
-        8 => op::flags::assert_flags(Compared::With(CmpOperator::In)),
-        9 => op::flags::assert_flags(Compared::With(CmpOperator::NotIn)),
-        10 => op::flags::assert_flags(Compared::Nothing),
-        _ => 255,
-    }
+    let operator = match comparison {
+        0 => CmpOperator::Eq,
+        1 => CmpOperator::NotEq,
+        2 => CmpOperator::Lt,
+        3 => CmpOperator::LtE,
+        4 => CmpOperator::Gt,
+        5 => CmpOperator::GtE,
+        6 => CmpOperator::Is,
+        7 => CmpOperator::IsNot,
+        8 => CmpOperator::In,
+        9 => CmpOperator::NotIn,
+        10 => return op::flags::assert_flags(Compared::Nothing),
+        _ => return 255,
+    };
+    op::flags::assert_flags(Compared::With(operator))
 }
 
 pub fn tf_decode_assert_flags(flags: u8) -> u8
     ensures { result ≡ flags_answer (decoded_flags flags) }
 {
-    let decoded = op::flags::decode_assert_flags(flags);
-    match decoded {
+    match op::flags::decode_assert_flags(flags) {
         AssertFlags::Valid(compared) => answers::of_compared(compared),
         AssertFlags::Invalid => 11,
     }
@@ -174,14 +160,14 @@ pub fn tf_fnv1a(bytes: &[u8]) -> u64
     fingerprint::fnv1a(bytes)
 }
 
+#[tactic(auto, unfolding(crate::specs::Answers::count_answer))]
 pub fn tf_count_instructions(code: &[u8]) -> u64
     ensures { result ≡ count_answer code.now }
 {
     if CODE_LIMIT < code.len() {
         return answers::refused(Refusal::TooLarge);
     }
-    let counted = code::reading::count(code);
-    match counted {
+    match code::reading::count(code) {
         Count::Whole(n) => n as u64,
         Count::Stopped(_, refusal) => answers::refused(refusal),
     }
@@ -191,8 +177,7 @@ pub fn tf_step(code: &[u8], at: usize, out: &mut [u64]) -> u64
     ensures { Tells (step_told at (decode last_opcode at (drop at code.now))) out.old result
         out.new }
 {
-    let step = code::decoder::step_at(code, at);
-    match step {
+    match code::decoder::step_at(code, at) {
         Step::Instr {
             opcode,
             operand,
@@ -207,15 +192,10 @@ pub fn tf_write(out: &mut [u8], opcode: u8, shape: u8, a: u16, b: u16, c: u8, na
     ensures { WritesGiven opcode (given_of shape a b c (length names.now)) names.now
         out.old result out.new }
 {
-    if 255 < names.len() {
+    let Ok(count) = u8::try_from(names.len()) else {
         return answers::refused(steps::no_write(opcode, names.len()));
-    }
-    steps::write(
-        out,
-        opcode,
-        operands::operand(shape, a, b, c, names.len() as u8),
-        names,
-    )
+    };
+    steps::write(out, opcode, operands::operand(shape, a, b, c, count), names)
 }
 
 pub fn tf_check(
@@ -229,11 +209,10 @@ pub fn tf_check(
     ensures { ChecksTold mode code.now starts.now depths.old depths.new
         work.old work.new greatest.old greatest.new result }
 {
-    if modes::LAST < mode {
+    let Some(mode) = modes::of_number(mode) else {
         return answers::refused(Refusal::WrongShape);
-    }
-    let checked = strict::check(modes::of_number(mode), code, starts, depths, work);
-    answers::tell_checked(checked, greatest)
+    };
+    answers::tell_checked(strict::check(mode, code, starts, depths, work), greatest)
 }
 
 pub fn tf_explain(
@@ -252,10 +231,10 @@ pub fn tf_explain(
     if told.len() < 4 {
         return answers::refused(Refusal::Full(Table::Text));
     }
-    if modes::LAST < mode {
+    let Some(mode) = modes::of_number(mode) else {
         return answers::refused(Refusal::WrongShape);
-    }
-    let verdict = strict::explain(modes::of_number(mode), code, starts, depths, work);
+    };
+    let verdict = strict::explain(mode, code, starts, depths, work);
     reasons::tell_verdict(verdict, greatest, told)
 }
 
@@ -289,8 +268,7 @@ pub fn tf_location_for_offset(rows: &[u32], offset: usize, out: &mut [u64]) -> u
     ensures { Tells (located_told (location_of rows.now offset)) out.old result
         out.new }
 {
-    let located = code::lookups::location_for_offset(rows, offset);
-    match located {
+    match code::lookups::location_for_offset(rows, offset) {
         Located::Row(number, row) => tables::tell_location(number, row, out),
         Located::Absent => 0,
     }
@@ -300,13 +278,13 @@ pub fn tf_find_exception_handler(rows: &[u32], offset: u32, out: &mut [u64]) -> 
     ensures { Tells (handled_told (handler_of rows.now offset)) out.old result
         out.new }
 {
-    let handled = code::lookups::find_exception_handler(rows, offset);
-    match handled {
+    match code::lookups::find_exception_handler(rows, offset) {
         Handled::Row(number, row) => tables::tell_handler(number, row, out),
         Handled::Absent => 0,
     }
 }
 
+#[tactic(auto, unfolding(crate::specs::Pairs::two_told, crate::specs::Told::told_answer, crate::specs::Told::told_cells))]
 pub fn tf_find_in_two(rows: &[u32], offset: u32, out: &mut [u64]) -> u64
     ensures { Tells (two_told rows.now offset) out.old result out.new }
 {
@@ -325,8 +303,7 @@ pub fn tf_constant(constants: &[u64], index: usize, out: &mut [u64]) -> u64
     ensures { Tells (constant_told (constant_of constants.now index)) out.old result
         out.new }
 {
-    let constant = code::lookups::constant(constants, index);
-    match constant {
+    match code::lookups::constant(constants, index) {
         Constant::Value(value) => cells::tell(&[value], out),
         Constant::Absent => 0,
     }
@@ -335,8 +312,7 @@ pub fn tf_constant(constants: &[u64], index: usize, out: &mut [u64]) -> u64
 pub fn tf_local_name(names: &[u64], slot: usize, out: &mut [u64]) -> u64
     ensures { Tells (name_told (local_name_of names.now slot)) out.old result out.new }
 {
-    let name = code::lookups::local_name(names, slot);
-    match name {
+    match code::lookups::local_name(names, slot) {
         LocalName::Name(number) => cells::tell(&[number as u64], out),
         LocalName::Absent => 0,
     }
@@ -345,6 +321,5 @@ pub fn tf_local_name(names: &[u64], slot: usize, out: &mut [u64]) -> u64
 pub fn tf_read_listing(text: &[u8], code: &mut [u8]) -> u64
     ensures { ReadsTold text.now code.old result code.new }
 {
-    let read = readback::read_listing(text, code);
-    answers::of_readback(read)
+    answers::of_readback(readback::read_listing(text, code))
 }

@@ -1,83 +1,48 @@
 // Operands given as numbers.
-ghost use Rattle.std.specs.Prelude.{◌≡◌};
-ghost use Rattle.op.specs.Effects.{Small};
+ghost use Rattle.std.specs.Prelude.{◌≡◌, cond, ltb};
 ghost use Rattle.api.specs.Given.{given_of, unshaped, effect_given, after_given};
 
-use crate::Given;
+use code::signs;
 use op::{After, Effect, Operand, Refusal};
 
+// A byte, if a number is one.
+fn byte(x: u16) -> Option<u8>
+    ensures { result ≡ cond (ltb x 256) (Some x) None }
+{
+    u8::try_from(x).ok()
+}
+
 // The operand of a shape's number.
-pub fn operand(shape: u8, a: u16, b: u16, c: u8, names: u8) -> Given
+#[tactic(auto, unfolding(crate::specs::Given::given_of))]
+pub fn operand(shape: u8, a: u16, b: u16, c: u8, names: u8) -> Option<Operand>
     ensures { result ≡ given_of shape a b c names }
 {
     match shape {
-        0 => Given::Is(Operand::None),
-        1 => {
-            if a < 256 {
-                Given::Is(Operand::U8(a as u8))
-            } else {
-                Given::Nothing
-            }
-        }
-        2 => {
-            if a < 256 {
-                Given::Is(Operand::I8(code::signs::to_i8(a as u8)))
-            } else {
-                Given::Nothing
-            }
-        }
-        3 => Given::Is(Operand::U16(a)),
-        4 => Given::Is(Operand::Offset(code::signs::to_i16(a))),
-        5 => {
-            if a < 256 {
-                if b < 256 {
-                    return Given::Is(Operand::U8U8(a as u8, b as u8));
-                }
-            }
-            Given::Nothing
-        }
-        6 => {
-            if b < 256 {
-                Given::Is(Operand::U16U8(a, b as u8))
-            } else {
-                Given::Nothing
-            }
-        }
-        7 => Given::Is(Operand::U16U16(a, b)),
-        8 => {
-            if b < 256 {
-                Given::Is(Operand::U16U8U8(a, b as u8, c))
-            } else {
-                Given::Nothing
-            }
-        }
-        9 => {
-            if a < 256 {
-                Given::Is(Operand::CallKw {
-                    positional: a as u8,
-                    names,
-                })
-            } else {
-                Given::Nothing
-            }
-        }
-        10 => {
-            if b < 256 {
-                Given::Is(Operand::CallAttrKw {
-                    attribute: a,
-                    positional: b as u8,
-                    names,
-                })
-            } else {
-                Given::Nothing
-            }
-        }
-        11 => Given::Is(Operand::U16U16U8(a, b, c)),
-        _ => Given::Nothing,
+        0 => Some(Operand::None),
+        1 => Some(Operand::U8(byte(a)?)),
+        2 => Some(Operand::I8(signs::to_i8(byte(a)?))),
+        3 => Some(Operand::U16(a)),
+        4 => Some(Operand::Offset(signs::to_i16(a))),
+        5 => Some(Operand::U8U8(byte(a)?, byte(b)?)),
+        6 => Some(Operand::U16U8(a, byte(b)?)),
+        7 => Some(Operand::U16U16(a, b)),
+        8 => Some(Operand::U16U8U8(a, byte(b)?, c)),
+        9 => Some(Operand::CallKw {
+            positional: byte(a)?,
+            names,
+        }),
+        10 => Some(Operand::CallAttrKw {
+            attribute: a,
+            positional: byte(b)?,
+            names,
+        }),
+        11 => Some(Operand::U16U16U8(a, b, c)),
+        _ => None,
     }
 }
 
 // Why there is no answer where there is no operand: 1, then 2.
+#[tactic(auto, unfolding(op::specs::Opcodes::known))]
 fn no_operand(opcode: u8) -> Refusal
     ensures { result ≡ unshaped opcode }
 {
@@ -88,21 +53,21 @@ fn no_operand(opcode: u8) -> Refusal
 }
 
 // The effect with a given operand.
-pub fn effect(opcode: u8, given: Given) -> Effect
-    ensures { (result ≡ effect_given opcode given) × Small result }
+pub fn effect(opcode: u8, given: Option<Operand>) -> Effect
+    ensures { result ≡ effect_given opcode given }
 {
     match given {
-        Given::Is(operand) => op::effects::effect(opcode, operand),
-        Given::Nothing => Effect::Refused(no_operand(opcode)),
+        Some(operand) => op::effects::effect(opcode, operand),
+        None => Effect::Refused(no_operand(opcode)),
     }
 }
 
 // The depth after falling through with a given operand.
-pub fn after(depth: u16, opcode: u8, given: Given) -> After
+pub fn after(depth: u16, opcode: u8, given: Option<Operand>) -> After
     ensures { result ≡ after_given depth opcode given }
 {
     match given {
-        Given::Is(operand) => op::depths::after(depth, opcode, operand),
-        Given::Nothing => After::Refused(no_operand(opcode)),
+        Some(operand) => op::depths::after(depth, opcode, operand),
+        None => After::Refused(no_operand(opcode)),
     }
 }

@@ -1,22 +1,22 @@
 // Two records of the exception table, given as numbers.
-ghost use Rattle.std.specs.Prelude.{◌≡◌, ◌+◌, ◌≤◌, length};
+ghost use Rattle.std.specs.Prelude.{◌≡◌, ◌+◌, ◌≤◌, cond, leb, length};
 ghost use Rattle.code.specs.Entries.{kind_number, entry_row, flat_answer};
 ghost use Rattle.api.specs.Pairs.{kind_of, entry_of, entry_at, both_told};
 ghost use Rattle.api.specs.Tables.{handled_told};
 ghost use Rattle.api.specs.Told.{Tells};
 
-use crate::{Entered, answers, tables};
-use code::{ExceptionEntry, Found, HandlerKind, HandlerRow, WORD_MAX};
+use crate::{answers, tables};
+use code::{ExceptionEntry, Found, HandlerKind, HandlerRow};
 use op::Refusal;
 
-// A kind by its number.
-fn kind_of(number: u32) -> HandlerKind
-    ensures { result ≡ kind_of number }
+// A kind by its number, if it is one. The types here are crate `code`'s, so these are no `From` and no `TryFrom`.
+fn kind_of(number: u32) -> Option<HandlerKind>
+    ensures { result ≡ cond (leb number 1) (Some (kind_of number)) None }
 {
-    if number == 0 {
-        HandlerKind::Consuming
-    } else {
-        HandlerKind::Cleanup
+    match number {
+        0 => Some(HandlerKind::Consuming),
+        1 => Some(HandlerKind::Cleanup),
+        _ => None,
     }
 }
 
@@ -30,43 +30,37 @@ fn kind_number(kind: HandlerKind) -> u32
     }
 }
 
-// The record of six numbers.
-fn entry(start: u32, end: u32, handler: u32, depth: u32, count: u32, kind: u32) -> Entered
-    ensures { result ≡ entry_of start end handler depth count kind }
+// The record that a row holds, if it holds one.
+fn entry(row: HandlerRow) -> Option<ExceptionEntry>
+    ensures { result ≡ entry_of row.start row.end row.handler row.depth row.count row.kind }
 {
-    if WORD_MAX < depth {
-        return Entered::Nothing;
-    }
-    if WORD_MAX < count {
-        return Entered::Nothing;
-    }
-    if 1 < kind {
-        return Entered::Nothing;
-    }
-    let e = ExceptionEntry {
-        start,
-        end,
-        handler,
-        stack_depth: depth as u16,
-        exception_stack_count: count as u16,
-        kind: kind_of(kind),
-    };
-    Entered::Is(e)
+    let stack_depth = u16::try_from(row.depth).ok()?;
+    let exception_stack_count = u16::try_from(row.count).ok()?;
+    let kind = kind_of(row.kind)?;
+    Some(ExceptionEntry {
+        start: row.start,
+        end: row.end,
+        handler: row.handler,
+        stack_depth,
+        exception_stack_count,
+        kind,
+    })
 }
 
 // The record that begins at a place.
-pub fn entry_at(rows: &[u32], at: usize) -> Entered
+#[tactic(auto, unfolding(crate::specs::Pairs::entry_at))]
+pub fn entry_at(rows: &[u32], at: usize) -> Option<ExceptionEntry>
     requires { at + 6 ≤ length rows.now }
     ensures { result ≡ entry_at rows.now at }
 {
-    entry(
-        rows[at],
-        rows[at + 1],
-        rows[at + 2],
-        rows[at + 3],
-        rows[at + 4],
-        rows[at + 5],
-    )
+    entry(HandlerRow {
+        start: rows[at],
+        end: rows[at + 1],
+        handler: rows[at + 2],
+        depth: rows[at + 3],
+        count: rows[at + 4],
+        kind: rows[at + 5],
+    })
 }
 
 // A record as a row.
@@ -95,13 +89,15 @@ fn tell_found(found: Found, out: &mut [u64]) -> u64
 }
 
 // Tells which of two records contains an offset, the first before the second; 19 where one of them is none.
-pub fn find(first: Entered, second: Entered, offset: u32, out: &mut [u64]) -> u64
+pub fn find(
+    first: Option<ExceptionEntry>,
+    second: Option<ExceptionEntry>,
+    offset: u32,
+    out: &mut [u64],
+) -> u64
     ensures { Tells (both_told first second offset) out.old result out.new }
 {
-    let Entered::Is(a) = first else {
-        return answers::refused(Refusal::Unsound);
-    };
-    let Entered::Is(b) = second else {
+    let (Some(a), Some(b)) = (first, second) else {
         return answers::refused(Refusal::Unsound);
     };
     tell_found(records::find_in_two(a, b, offset), out)

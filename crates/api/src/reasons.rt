@@ -1,13 +1,17 @@
 // Why code is not accepted, as it is told.
 ghost use Rattle.std.specs.Prelude.{◌≡◌, ◌≤◌, length};
-ghost use Rattle.op.specs.declared.Refusal.TheVariants.{NoDepths, TooFewValues};
 ghost use Rattle.code.specs.Bytes.{front};
 ghost use Rattle.strict.specs.Promise.{answer_of};
 ghost use Rattle.api.specs.Answers.{refused};
-ghost use Rattle.api.specs.Checks.{check_answer, greatest_told, reason_numbers, few_numbers, reason_cells};
+ghost use Rattle.api.specs.Checks.{check_answer, greatest_told, reason_numbers, reason_cells};
 
+<<<<<<< HEAD
 use crate::{answers, cells};
 use checker::{Assignment, Reason};
+=======
+use crate::answers;
+use checker::Reason;
+>>>>>>> 5268820e42e210989646c6360c877cfd488ea2d9
 use op::Refusal;
 use strict::Unfit;
 
@@ -23,26 +27,14 @@ fn numbers_of(reason: Reason) -> [u64; 4]
     }
 }
 
-// Tells a reason: 23, and its numbers at the front.
-fn tell_reason(reason: Reason, out: &mut [u64]) -> u64
+// Tells a refusal, and why at the front.
+fn tell_why(refusal: Refusal, why: [u64; 4], out: &mut [u64]) -> u64
     requires { 4 ≤ length out.old }
-    ensures { (result ≡ refused NoDepths)
-        × (out.new ≡ front (reason_numbers reason) out.old) }
+    ensures { (result ≡ refused refusal)
+        × (out.new ≡ front why out.old) }
 {
-    let given = numbers_of(reason);
-    cells::copy_in(&given, out);
-    answers::refused(Refusal::NoDepths)
-}
-
-// Tells that an instruction has too few values: 26, and its numbers at the front.
-fn tell_too_few(at: usize, depth: u32, need: u8, out: &mut [u64]) -> u64
-    requires { 4 ≤ length out.old }
-    ensures { (result ≡ refused (TooFewValues at))
-        × (out.new ≡ front (few_numbers at depth need) out.old) }
-{
-    let given = [5, at as u64, depth as u64, need as u64];
-    cells::copy_in(&given, out);
-    answers::refused(Refusal::TooFewValues(at))
+    out[..4].copy_from_slice(&why);
+    answers::refused(refusal)
 }
 
 // Tells a check's answer, and on 23 and 26 the reason.
@@ -53,9 +45,19 @@ pub fn tell_verdict(verdict: Result<Assignment, Unfit>, greatest: &mut u32, out:
         × (out.new ≡ reason_cells verdict out.old) }
 {
     match verdict {
+<<<<<<< HEAD
         Ok(assignment) => answers::tell_accepted(assignment, greatest),
         Err(Unfit::Refused(refusal)) => answers::refused(refusal),
         Err(Unfit::Unsolved(reason)) => tell_reason(reason, out),
         Err(Unfit::TooFew { at, depth, need }) => tell_too_few(at, depth, need, out),
+=======
+        Verdict::Accepted(assignment) => answers::tell_accepted(assignment, greatest),
+        Verdict::Refused(refusal) => answers::refused(refusal),
+        Verdict::Unsolved(reason) => tell_why(Refusal::NoDepths, numbers_of(reason), out),
+        Verdict::TooFew { at, depth, need } => {
+            let why = [5, at as u64, depth as u64, need as u64];
+            tell_why(Refusal::TooFewValues(at), why, out)
+        }
+>>>>>>> 5268820e42e210989646c6360c877cfd488ea2d9
     }
 }

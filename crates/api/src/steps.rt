@@ -5,41 +5,41 @@ ghost use Rattle.code.specs.declared.Step.TheVariants.{Instr};
 ghost use Rattle.api.specs.Told.{Tells};
 ghost use Rattle.api.specs.Steps.{values, values_of, step_told, unwritten, written_answer, WritesGiven};
 
-use crate::{Given, Values, answers, cells};
+use crate::{Values, answers, cells};
 use code::{Written, decoder, signs, writer};
 use op::{Operand, Refusal, shapes};
 
-// Three values.
-fn values(a: u16, b: u16, c: u8) -> Values
-    ensures { result ≡ values a b c }
-{
-    Values { a, b, c }
+impl Values {
+    fn new(a: u16, b: u16, c: u8) -> Values
+        ensures { result ≡ values a b c }
+    {
+        Values { a, b, c }
+    }
 }
 
 // An operand's values, in byte order.
-fn values_of(operand: Operand) -> Values
-    ensures { result ≡ values_of operand }
-{
-    match operand {
-        Operand::None => values(0, 0, 0),
-        Operand::U8(a) => values(a as u16, 0, 0),
-        Operand::I8(x) => values(signs::byte_of(x) as u16, 0, 0),
-        Operand::U16(a) => values(a, 0, 0),
-        Operand::Offset(x) => values(signs::word_of(x), 0, 0),
-        Operand::U8U8(a, b) => values(a as u16, b as u16, 0),
-        Operand::U16U8(a, b) => values(a, b as u16, 0),
-        Operand::U16U16(a, b) => values(a, b, 0),
-        Operand::U16U8U8(a, b, c) => values(a, b as u16, c),
-        Operand::CallKw {
-            positional,
-            names: _,
-        } => values(positional as u16, 0, 0),
-        Operand::CallAttrKw {
-            attribute,
-            positional,
-            names: _,
-        } => values(attribute, positional as u16, 0),
-        Operand::U16U16U8(a, b, c) => values(a, b, c),
+impl From<Operand> for Values {
+    ghost from_gives = { λ operand result. result ≡ values_of operand };
+
+    fn from(operand: Operand) -> Values {
+        match operand {
+            Operand::None => Values::default(),
+            Operand::U8(a) => Values::new(a as u16, 0, 0),
+            Operand::I8(x) => Values::new(signs::byte_of(x) as u16, 0, 0),
+            Operand::U16(a) => Values::new(a, 0, 0),
+            Operand::Offset(x) => Values::new(signs::word_of(x), 0, 0),
+            Operand::U8U8(a, b) => Values::new(a as u16, b as u16, 0),
+            Operand::U16U8(a, b) => Values::new(a, b as u16, 0),
+            Operand::U16U16(a, b) => Values::new(a, b, 0),
+            Operand::U16U8U8(a, b, c) => Values::new(a, b as u16, c),
+            Operand::CallKw { positional, .. } => Values::new(positional as u16, 0, 0),
+            Operand::CallAttrKw {
+                attribute,
+                positional,
+                ..
+            } => Values::new(attribute, positional as u16, 0),
+            Operand::U16U16U8(a, b, c) => Values::new(a, b, c),
+        }
     }
 }
 
@@ -54,7 +54,7 @@ pub fn tell_instruction(
     requires { (at + size < 18446744073709551616) × (2 * names_in operand ≤ size) }
     ensures { Tells (step_told at (Instr opcode operand size)) out.old result out.new }
 {
-    let values = values_of(operand);
+    let values = Values::from(operand);
     let shape = shapes::number(shapes::of_operand(operand));
     let names = decoder::names_of(operand);
     let given = [
@@ -71,6 +71,7 @@ pub fn tell_instruction(
 }
 
 // Why so many names aren't written where there is no operand for them: 1, 7, then 2.
+#[tactic(auto, unfolding(op::specs::Opcodes::known))]
 pub fn no_write(opcode: u8, names: usize) -> Refusal
     ensures { result ≡ unwritten opcode names }
 {
@@ -94,11 +95,11 @@ fn of_written(written: Written) -> u64
 }
 
 // Writes an instruction with a given operand.
-pub fn write(out: &mut [u8], opcode: u8, given: Given, names: &[u16]) -> u64
+pub fn write(out: &mut [u8], opcode: u8, given: Option<Operand>, names: &[u16]) -> u64
     ensures { WritesGiven opcode given names.now out.old result out.new }
 {
     match given {
-        Given::Is(operand) => of_written(writer::write(out, opcode, operand, names)),
-        Given::Nothing => answers::refused(no_write(opcode, names.len())),
+        Some(operand) => of_written(writer::write(out, opcode, operand, names)),
+        None => answers::refused(no_write(opcode, names.len())),
     }
 }

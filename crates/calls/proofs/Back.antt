@@ -1,5 +1,6 @@
 -- A state that was written is the one that is read.
 -- Assumes nothing.
+use Rattle.std.specs.Prelude.{Some, None, Option}
 use mathlib.Core.Path.{◌≡◌, refl, ap}
 use mathlib.Core.List.{List}
 use Prim.Native.Nat.{ℕ, ◌≤◌}
@@ -20,24 +21,18 @@ use Rattle.builder.specs.declared.Location.TheVariants.{Unset, Set}
 use Rattle.calls.specs.Back.{CoreBack, DepthFits, LocationFits, StateBack}
 use Rattle.calls.specs.State.{cells_of, core_of, depth_in, focus_in, location_in, offset_max, place_of, state_cells}
 use Rattle.calls.specs.State.{state_in, state_with}
-use Rattle.calls.specs.declared.DepthIn.{DepthIn}
-use Rattle.calls.specs.declared.DepthIn.TheVariants as D
-use Rattle.calls.specs.declared.LocationIn.{LocationIn}
-use Rattle.calls.specs.declared.LocationIn.TheVariants as P
-use Rattle.calls.specs.declared.State.{State}
-use Rattle.calls.specs.declared.State.TheVariants as S
 use Rattle.calls.proofs.Held.{enough}
 
-depth_back : (d : Depth) → DepthFits d → depth_in (depth_number d) ≡ D.Is d
+depth_back : (d : Depth) → DepthFits d → depth_in (depth_number d) ≡ Some d
 depth_back Dead h = refl
 depth_back (Live d) h = simp (lt-ltb d dead_depth h)
 
-abbrev read : Location → LocationIn
+abbrev read : Location → Option Location
 read l =
     let p = place_of l in
     location_in p.set p.start p.end (focus_in p.focus p.from p.to)
 
-location_back : (l : Location) → LocationFits l → read l ≡ P.Is l
+location_back : (l : Location) → LocationFits l → read l ≡ Some l
 location_back Unset h = refl
 location_back (Set r Absent) h = simp (le-leb r.start offset_max h.0, le-leb r.end offset_max h.1)
 location_back (Set r (Present f)) h =
@@ -64,20 +59,20 @@ module _ (b : Builder) (k : Core) (value : ℕ) (cells : List ℕ) where
   abbrev after : List ℕ
   after = front (core_of k value) cells
 
-  abbrev over : State → State
-  over S.Nothing = S.Nothing
-  over (S.Is x) = S.Is (with_core x k)
+  abbrev over : Option Builder → Option Builder
+  over None = None
+  over (Some x) = Some (with_core x k)
 
-  other : (d : DepthIn) (l : LocationIn) → state_with d l cells ≡ S.Is b
-      → state_with (D.Is k.depth) l after ≡ S.Is (with_core b k)
-  other D.Nothing l e =
+  other : (d : Option Depth) (l : Option Location) → state_with d l cells ≡ Some b
+      → state_with (Some k.depth) l after ≡ Some (with_core b k)
+  other None l e =
       let z : ◌≡◌ {A = ℕ} 0 1 = cc in
       let n : ⊥ = omega arith in
       absurd n
-  other (D.Is d) P.Nothing e = ap over e
-  other (D.Is d) (P.Is l) e = simp get_or-drop (ap over e)
+  other (Some d) None e = ap over e
+  other (Some d) (Some l) e = simp get_or-drop (ap over e)
 
-  back : DepthFits k.depth → state_in cells ≡ S.Is b → state_in after ≡ S.Is (with_core b k)
+  back : DepthFits k.depth → state_in cells ≡ Some b → state_in after ≡ Some (with_core b k)
   unfolding state_in
   back fits e =
       let h : state_cells ≤ length cells = enough cells b e in

@@ -1,4 +1,2 @@
 pub mod Held
-pub mod Leaving
-pub mod Looking
 pub mod Back

@@ -1,7 +1,7 @@
 -- What is written is read back: a state's cells hold that state, and cells whose front a call wrote, which changes the
 -- core alone, hold the same state with the new core. The numbers are within their types, as every builder's are.
 -- Assumes nothing.
-use Rattle.std.specs.Prelude.{◌≡◌, List, ℕ, ◌≤◌, ◌<◌, length}
+use Rattle.std.specs.Prelude.{◌≡◌, List, ℕ, ◌≤◌, ◌<◌, length, Some}
 use Rattle.code.specs.Bytes.{front}
 use Rattle.code.specs.declared.CodeRange.{CodeRange}
 use Rattle.code.specs.declared.Focus.TheVariants.{Absent, Present}
@@ -14,7 +14,6 @@ use Rattle.builder.specs.declared.Depth.TheVariants.{Dead, Live}
 use Rattle.builder.specs.declared.Location.{Location}
 use Rattle.builder.specs.declared.Location.TheVariants.{Unset, Set}
 use Rattle.calls.specs.State.{cells_of, core_of, offset_max, state_cells, state_in}
-use Rattle.calls.specs.declared.State.TheVariants.{Is}
 
 abbrev pub DepthFits : Depth → Type 0
 DepthFits Dead = Unit {0}
@@ -32,9 +31,9 @@ abbrev pub StateBack : Type 0
 StateBack =
     (builder : Builder) (value : ℕ) (cells : List ℕ) → state_cells ≤ length cells
     → DepthFits builder.core.depth → LocationFits builder.location
-    → state_in (front (cells_of builder value) cells) ≡ Is builder
+    → state_in (front (cells_of builder value) cells) ≡ Some builder
 
 abbrev pub CoreBack : Type 0
 CoreBack =
     (builder : Builder) (core : Core) (value : ℕ) (cells : List ℕ) → DepthFits core.depth
-    → state_in cells ≡ Is builder → state_in (front (core_of core value) cells) ≡ Is (with_core builder core)
+    → state_in cells ≡ Some builder → state_in (front (core_of core value) cells) ≡ Some (with_core builder core)

@@ -1,7 +1,7 @@
 -- What each export leaves: the builder's own outcome at the state that the cells hold. Cells that hold none: 19. An
 -- argument that the builder's call cannot be given: 2. Neither changes anything.
 -- Assumes nothing.
-use Rattle.std.specs.Prelude.{◌≡◌, Bool, true, false, cond, List, [], ◌∷◌, ℕ, ◌+◌, ◌*◌, leb, length}
+use Rattle.std.specs.Prelude.{◌≡◌, Bool, true, false, cond, List, [], ◌∷◌, ℕ, ◌+◌, ◌*◌, leb, length, Some, None, Option}
 use Rattle.op.specs.Refusals.{answer_of, half}
 use Rattle.op.specs.declared.Refusal.TheVariants.{Full, Unsound, WrongShape}
 use Rattle.op.specs.declared.Table.TheVariants.{Text}
@@ -30,14 +30,6 @@ use Rattle.builder.specs.declared.Jumped.TheVariants as J
 use Rattle.builder.specs.declared.Location.TheVariants.{Set}
 use Rattle.builder.specs.declared.Targeted.TheVariants as G
 use Rattle.calls.specs.State.{cells_of, core_of, depth_in, focus_in, kind_in, label_in, state_cells, state_in, target_in}
-use Rattle.calls.specs.declared.DepthIn.{DepthIn}
-use Rattle.calls.specs.declared.DepthIn.TheVariants as D
-use Rattle.calls.specs.declared.FocusIn.{FocusIn}
-use Rattle.calls.specs.declared.FocusIn.TheVariants as F
-use Rattle.calls.specs.declared.KindIn.{KindIn}
-use Rattle.calls.specs.declared.KindIn.TheVariants as K
-use Rattle.calls.specs.declared.State.{State}
-use Rattle.calls.specs.declared.State.TheVariants as S
 
 -- how an answer is told
 
@@ -98,21 +90,21 @@ pub record TargetLeaves (x : TargetOutcome) (cells : List ℕ) (r : ℕ) (cells'
 
 -- go on with what numbers hold, where they do
 
-unfoldable pub held : {A : Type 0} → State → (none : A) → (Builder → A) → A
-held S.Nothing none on = none
-held (S.Is builder) none on = on builder
+unfoldable pub held : {A : Type 0} → Option Builder → (none : A) → (Builder → A) → A
+held None none on = none
+held (Some builder) none on = on builder
 
-unfoldable pub told_depth : {A : Type 0} → DepthIn → (none : A) → (Depth → A) → A
-told_depth D.Nothing none on = none
-told_depth (D.Is depth) none on = on depth
+unfoldable pub told_depth : {A : Type 0} → Option Depth → (none : A) → (Depth → A) → A
+told_depth None none on = none
+told_depth (Some depth) none on = on depth
 
-unfoldable pub told_focus : {A : Type 0} → FocusIn → (none : A) → (Focus → A) → A
-told_focus F.Nothing none on = none
-told_focus (F.Is focus) none on = on focus
+unfoldable pub told_focus : {A : Type 0} → Option Focus → (none : A) → (Focus → A) → A
+told_focus None none on = none
+told_focus (Some focus) none on = on focus
 
-unfoldable pub told_kind : {A : Type 0} → KindIn → (none : A) → (HandlerKind → A) → A
-told_kind K.Nothing none on = none
-told_kind (K.Is kind) none on = on kind
+unfoldable pub told_kind : {A : Type 0} → Option HandlerKind → (none : A) → (HandlerKind → A) → A
+told_kind None none on = none
+told_kind (Some kind) none on = on kind
 
 -- the exports
 

@@ -1,3 +1,4 @@
 pub mod State
 pub mod Exports
 pub mod Back
+pub mod Inner

@@ -2,7 +2,10 @@
 -- 5 exceptions, 6 constants, 7 names, 8 starts; 9 whether a location is set, 10 its start, 11 its end; 12 whether it
 -- has a focus, 13 its start, 14 its end; 15 and 16 are neither read nor written. The header says the same in words.
 -- Assumes nothing.
-use Rattle.std.specs.Prelude.{cond, List, [], ◌∷◌, ℕ, leb, ltb, eqb, length, get_or}
+use Rattle.code.specs.declared.HandlerKind.{HandlerKind}
+use Rattle.code.specs.declared.Focus.{Focus}
+use Rattle.builder.specs.declared.Depth.{Depth}
+use Rattle.std.specs.Prelude.{cond, List, [], ◌∷◌, ℕ, leb, ltb, eqb, length, get_or, Some, None, Option}
 use Rattle.code.specs.declared.Focus.TheVariants.{Absent, Present}
 use Rattle.code.specs.declared.HandlerKind.TheVariants.{Consuming, Cleanup}
 use Rattle.builder.specs.Answers.{dead_depth, dead_row, depth_number}
@@ -15,17 +18,7 @@ use Rattle.builder.specs.declared.JumpTarget.{JumpTarget}
 use Rattle.builder.specs.declared.JumpTarget.TheVariants as T
 use Rattle.builder.specs.declared.Location.{Location}
 use Rattle.builder.specs.declared.Location.TheVariants.{Unset, Set}
-use Rattle.calls.specs.declared.DepthIn.{DepthIn}
-use Rattle.calls.specs.declared.DepthIn.TheVariants as D
-use Rattle.calls.specs.declared.FocusIn.{FocusIn}
-use Rattle.calls.specs.declared.FocusIn.TheVariants as F
-use Rattle.calls.specs.declared.KindIn.{KindIn}
-use Rattle.calls.specs.declared.KindIn.TheVariants as K
-use Rattle.calls.specs.declared.LocationIn.{LocationIn}
-use Rattle.calls.specs.declared.LocationIn.TheVariants as P
 use Rattle.calls.specs.declared.Place.{Place}
-use Rattle.calls.specs.declared.State.{State}
-use Rattle.calls.specs.declared.State.TheVariants as S
 
 abbrev pub state_cells : ℕ
 state_cells = 17
@@ -36,10 +29,10 @@ offset_max = 4294967295
 
 -- reading
 
-abbrev pub depth_in : (number : ℕ) → DepthIn
+abbrev pub depth_in : (number : ℕ) → Option Depth
 depth_in number =
-    cond (ltb number dead_depth) (D.Is (Live number))
-    (cond (eqb number dead_depth) (D.Is Dead) D.Nothing)
+    cond (ltb number dead_depth) (Some (Live number))
+    (cond (eqb number dead_depth) (Some Dead) None)
 
 abbrev pub label_in : (number : ℕ) → JumpLabel
 label_in number = cond (eqb number dead_row) L.Dead (L.Row number)
@@ -47,35 +40,35 @@ label_in number = cond (eqb number dead_row) L.Dead (L.Row number)
 abbrev pub target_in : (number : ℕ) → JumpTarget
 target_in number = cond (eqb number dead_row) T.Dead (T.Row number)
 
-abbrev pub kind_in : (number : ℕ) → KindIn
-kind_in number = cond (eqb number 0) (K.Is Consuming) (cond (eqb number 1) (K.Is Cleanup) K.Nothing)
+abbrev pub kind_in : (number : ℕ) → Option HandlerKind
+kind_in number = cond (eqb number 0) (Some Consuming) (cond (eqb number 1) (Some Cleanup) None)
 
 -- of a focus that is absent the other cells are not read
-abbrev pub focus_in : (flag start end : ℕ) → FocusIn
+abbrev pub focus_in : (flag start end : ℕ) → Option Focus
 focus_in flag start end =
-    cond (eqb flag 0) (F.Is Absent)
+    cond (eqb flag 0) (Some Absent)
     (cond (eqb flag 1)
     (cond (leb start offset_max)
-    (cond (leb end offset_max) (F.Is (Present (record { start = start; end = end }))) F.Nothing)
-    F.Nothing)
-    F.Nothing)
+    (cond (leb end offset_max) (Some (Present (record { start = start; end = end }))) None)
+    None)
+    None)
 
-abbrev pub set_in : (start end : ℕ) → FocusIn → LocationIn
-set_in start end F.Nothing = P.Nothing
-set_in start end (F.Is focus) = P.Is (Set (record { start = start; end = end }) focus)
+abbrev pub set_in : (start end : ℕ) → Option Focus → Option Location
+set_in start end None = None
+set_in start end (Some focus) = Some (Set (record { start = start; end = end }) focus)
 
 -- of a location that is not set the other cells are not read
-abbrev pub location_in : (set start end : ℕ) (focus : FocusIn) → LocationIn
+abbrev pub location_in : (set start end : ℕ) (focus : Option Focus) → Option Location
 location_in set start end focus =
-    cond (eqb set 0) (P.Is Unset)
+    cond (eqb set 0) (Some Unset)
     (cond (eqb set 1)
-    (cond (leb start offset_max) (cond (leb end offset_max) (set_in start end focus) P.Nothing) P.Nothing)
-    P.Nothing)
+    (cond (leb start offset_max) (cond (leb end offset_max) (set_in start end focus) None) None)
+    None)
 
-abbrev pub state_with : DepthIn → LocationIn → (cells : List ℕ) → State
-state_with D.Nothing location cells = S.Nothing
-state_with (D.Is depth) P.Nothing cells = S.Nothing
-state_with (D.Is depth) (P.Is location) cells = S.Is (record {
+abbrev pub state_with : Option Depth → Option Location → (cells : List ℕ) → Option Builder
+state_with None location cells = None
+state_with (Some depth) None cells = None
+state_with (Some depth) (Some location) cells = Some (record {
   core = record { code = get_or cells 1 0; locations = get_or cells 2 0; marks = get_or cells 3 0; depth = depth };
   location = location;
   exceptions = get_or cells 5 0;
@@ -86,7 +79,7 @@ state_with (D.Is depth) (P.Is location) cells = S.Is (record {
 
 -- the state that cells hold; none where they are too few, a flag is neither 0 nor 1, or a depth or an offset is too
 -- large (R63)
-unfoldable pub state_in : (cells : List ℕ) → State
+unfoldable pub state_in : (cells : List ℕ) → Option Builder
 state_in cells =
     cond (leb state_cells (length cells))
     (state_with
@@ -94,7 +87,7 @@ state_in cells =
     (location_in (get_or cells 9 0) (get_or cells 10 0) (get_or cells 11 0)
     (focus_in (get_or cells 12 0) (get_or cells 13 0) (get_or cells 14 0)))
     cells)
-    S.Nothing
+    None
 
 -- writing
 

@@ -11,8 +11,8 @@ ghost use Rattle.calls.specs.Exports.{emit_in, emit_jump_in, emit_jump_to_in, lo
 ghost use Rattle.calls.specs.Exports.{patch_jump_in, register_local_name_in, register_local_names_in, set_location_in};
 ghost use Rattle.std.specs.Prelude.{◌≡◌};
 
-use builder::{Answer, Builder, Depth, Location};
-use code::{CodeRange, Focus, HandlerKind};
+use builder::{Added, Builder, Jumped, Targeted};
+use code::CodeRange;
 use op::{Refusal, Table, refusals};
 
 mod reading;
@@ -30,39 +30,8 @@ pub const DEAD_DEPTH: u64 = 65536;
 // The number of a label or a target that is dead.
 pub const DEAD_ROW: u64 = 0xFFFF_FFFF_FFFF_FFFF;
 
-// What numbers hold, or that they hold none.
-#[derive(Clone, Copy)]
-pub enum DepthIn {
-    Is(Depth),
-    Nothing,
-}
-
-#[derive(Clone, Copy)]
-pub enum FocusIn {
-    Is(Focus),
-    Nothing,
-}
-
-#[derive(Clone, Copy)]
-pub enum LocationIn {
-    Is(Location),
-    Nothing,
-}
-
-#[derive(Clone, Copy)]
-pub enum KindIn {
-    Is(HandlerKind),
-    Nothing,
-}
-
-#[derive(Clone, Copy)]
-pub enum State {
-    Is(Builder),
-    Nothing,
-}
-
-// The cells of a location.
-#[derive(Clone, Copy)]
+// The cells of a location; what is not there is 0.
+#[derive(Clone, Copy, Default)]
 pub struct Place {
     pub set: u64,
     pub start: u64,
@@ -73,6 +42,7 @@ pub struct Place {
 }
 
 // A new builder: live at a depth, or dead at 65,536.
+#[tactic(auto, unfolding(crate::specs::Exports::new_in, crate::specs::Exports::told_depth))]
 pub fn tfb_new(depth: u32, state: &mut [u64], starts: &mut [u32]) -> u64
     ensures { KeptLeaves (new_in depth state.old starts.old)
         state.old result state.new starts.new }
@@ -80,15 +50,14 @@ pub fn tfb_new(depth: u32, state: &mut [u64], starts: &mut [u32]) -> u64
     if state.len() < STATE_CELLS {
         return refusals::answer(Refusal::Unsound);
     }
-    let told = reading::depth_in(depth as u64);
-    let DepthIn::Is(live) = told else {
+    let Some(live) = reading::depth_in(depth as u64) else {
         return refusals::answer(Refusal::WrongShape);
     };
-    let answer = Builder::new(live, starts);
-    writing::leave(answer, state)
+    writing::leave(Builder::new(live, starts), state)
 }
 
 // Sets the source location of the instructions to come.
+#[tactic(auto, unfolding(crate::specs::Exports::set_location_in, crate::specs::Exports::held, crate::specs::Exports::told_focus))]
 pub fn tfb_set_location(
     start: u32,
     end: u32,
@@ -101,19 +70,22 @@ pub fn tfb_set_location(
         state.old))
         state.old result state.new }
 {
-    let held = reading::state_in(state);
-    let State::Is(before) = held else {
+    let Some(before) = reading::state_in(state) else {
         return refusals::answer(Refusal::Unsound);
     };
-    let told = reading::focus_in(has_focus as u64, focus_start as u64, focus_end as u64);
-    let FocusIn::Is(focus) = told else {
+    let Some(focus) = reading::focus_in(has_focus as u64, focus_start as u64, focus_end as u64)
+    else {
         return refusals::answer(Refusal::WrongShape);
     };
-    let after = before.set_location(CodeRange { start, end }, focus);
-    writing::leave(Answer::Accepted(after), state)
+    writing::accept(
+        before.set_location(CodeRange { start, end }, focus),
+        0,
+        state,
+    )
 }
 
 // Any emitting call without a jump, by its number: crates/builder/src/numbered.rt has the list.
+#[tactic(auto, unfolding(crate::specs::Exports::emit_in, crate::specs::Exports::held))]
 pub fn tfb_emit(
     call: u8,
     opcode: u8,
@@ -129,15 +101,17 @@ pub fn tfb_emit(
         code.old locations.old)
         state.old result state.new code.new locations.new }
 {
-    let held = reading::state_in(state);
-    let State::Is(before) = held else {
+    let Some(before) = reading::state_in(state) else {
         return refusals::answer(Refusal::Unsound);
     };
-    let answer = before.emit_numbered(call, opcode, a, b, c, names, code, locations);
-    writing::leave_core(answer, state)
+    writing::leave_core(
+        before.emit_numbered(call, opcode, a, b, c, names, code, locations),
+        state,
+    )
 }
 
 // A jump forward; its label is the value.
+#[tactic(auto, unfolding(crate::specs::Exports::emit_jump_in, crate::specs::Exports::held))]
 pub fn tfb_emit_jump(
     opcode: u8,
     state: &mut [u64],
@@ -149,28 +123,36 @@ pub fn tfb_emit_jump(
         locations.old marks.old)
         state.old result state.new code.new locations.new marks.new }
 {
-    let held = reading::state_in(state);
-    let State::Is(before) = held else {
+    let Some(before) = reading::state_in(state) else {
         return refusals::answer(Refusal::Unsound);
     };
-    let jumped = before.emit_jump(opcode, code, locations, marks);
-    writing::leave_jumped(jumped, state)
+    match before.emit_jump(opcode, code, locations, marks) {
+        Jumped::Made(after, label) => writing::accept_core(
+            after,
+            writing::label_number(label),
+            state,
+        ),
+        Jumped::Refused(refusal) => refusals::answer(refusal),
+    }
 }
 
 // Has a label's jump go to where the code now ends.
+#[tactic(auto, unfolding(crate::specs::Exports::patch_jump_in, crate::specs::Exports::held))]
 pub fn tfb_patch_jump(label: u64, state: &mut [u64], code: &mut [u8], marks: &mut [u32]) -> u64
     ensures { PatchLeaves (patch_jump_in label state.old code.old marks.old)
         state.old result state.new code.new marks.new }
 {
-    let held = reading::state_in(state);
-    let State::Is(before) = held else {
+    let Some(before) = reading::state_in(state) else {
         return refusals::answer(Refusal::Unsound);
     };
-    let answer = before.patch_jump(reading::label_in(label), code, marks);
-    writing::leave_core(answer, state)
+    writing::leave_core(
+        before.patch_jump(reading::label_in(label), code, marks),
+        state,
+    )
 }
 
 // A jump back to a target.
+#[tactic(auto, unfolding(crate::specs::Exports::emit_jump_to_in, crate::specs::Exports::held))]
 pub fn tfb_emit_jump_to(
     opcode: u8,
     target: u64,
@@ -183,67 +165,75 @@ pub fn tfb_emit_jump_to(
         locations.old marks.now)
         state.old result state.new code.new locations.new }
 {
-    let held = reading::state_in(state);
-    let State::Is(before) = held else {
+    let Some(before) = reading::state_in(state) else {
         return refusals::answer(Refusal::Unsound);
     };
-    let answer = before.emit_jump_to(opcode, reading::target_in(target), code, locations, marks);
-    writing::leave_core(answer, state)
+    writing::leave_core(
+        before.emit_jump_to(opcode, reading::target_in(target), code, locations, marks),
+        state,
+    )
 }
 
 // The place here as a target, which is the value.
+#[tactic(auto, unfolding(crate::specs::Exports::current_jump_target_in, crate::specs::Exports::held))]
 pub fn tfb_current_jump_target(state: &mut [u64], marks: &mut [u32]) -> u64
     ensures { TargetLeaves (current_jump_target_in state.old marks.old)
         state.old result state.new marks.new }
 {
-    let held = reading::state_in(state);
-    let State::Is(before) = held else {
+    let Some(before) = reading::state_in(state) else {
         return refusals::answer(Refusal::Unsound);
     };
-    let targeted = before.current_jump_target(marks);
-    writing::leave_targeted(targeted, state)
+    match before.current_jump_target(marks) {
+        Targeted::Made(after, target) => writing::accept_core(
+            after,
+            writing::target_number(target),
+            state,
+        ),
+        Targeted::Refused(refusal) => refusals::answer(refusal),
+    }
 }
 
 // Names the slots 0, 1, .. before any other name.
+#[tactic(auto, unfolding(crate::specs::Exports::register_local_names_in, crate::specs::Exports::held))]
 pub fn tfb_register_local_names(names: &[u32], state: &mut [u64], table: &mut [u64]) -> u64
     ensures { KeptLeaves (register_local_names_in names.now state.old table.old)
         state.old result state.new table.new }
 {
-    let held = reading::state_in(state);
-    let State::Is(before) = held else {
+    let Some(before) = reading::state_in(state) else {
         return refusals::answer(Refusal::Unsound);
     };
-    let answer = before.register_local_names(names, table);
-    writing::leave(answer, state)
+    writing::leave(before.register_local_names(names, table), state)
 }
 
 // Names a slot that has no name yet.
+#[tactic(auto, unfolding(crate::specs::Exports::register_local_name_in, crate::specs::Exports::held))]
 pub fn tfb_register_local_name(slot: u16, name: u32, state: &mut [u64], table: &mut [u64]) -> u64
     ensures { KeptLeaves (register_local_name_in slot name state.old table.old)
         state.old result state.new table.new }
 {
-    let held = reading::state_in(state);
-    let State::Is(before) = held else {
+    let Some(before) = reading::state_in(state) else {
         return refusals::answer(Refusal::Unsound);
     };
-    let answer = before.register_local_name(slot, name, table);
-    writing::leave(answer, state)
+    writing::leave(before.register_local_name(slot, name, table), state)
 }
 
 // Adds a constant; its index is the value.
+#[tactic(auto, unfolding(crate::specs::Exports::add_const_in, crate::specs::Exports::held))]
 pub fn tfb_add_const(value: u64, state: &mut [u64], constants: &mut [u64]) -> u64
     ensures { AddedLeaves (add_const_in value state.old constants.old)
         state.old result state.new constants.new }
 {
-    let held = reading::state_in(state);
-    let State::Is(before) = held else {
+    let Some(before) = reading::state_in(state) else {
         return refusals::answer(Refusal::Unsound);
     };
-    let added = before.add_const(value, constants);
-    writing::leave_added(added, state)
+    match before.add_const(value, constants) {
+        Added::Made(after, index) => writing::accept(after, index as u64, state),
+        Added::Refused(refusal) => refusals::answer(refusal),
+    }
 }
 
 // Adds an exception handler; kind 0 is Consuming, 1 Cleanup.
+#[tactic(auto, unfolding(crate::specs::Exports::add_exception_in, crate::specs::Exports::held, crate::specs::Exports::told_kind))]
 pub fn tfb_add_exception_entry(
     start: usize,
     end: usize,
@@ -258,58 +248,56 @@ pub fn tfb_add_exception_entry(
         state.old exceptions.old)
         state.old result state.new exceptions.new }
 {
-    let held = reading::state_in(state);
-    let State::Is(before) = held else {
+    let Some(before) = reading::state_in(state) else {
         return refusals::answer(Refusal::Unsound);
     };
-    let told = reading::kind_in(kind);
-    let KindIn::Is(handled) = told else {
+    let Some(handled) = reading::kind_in(kind) else {
         return refusals::answer(Refusal::WrongShape);
     };
-    let answer = before.add_exception_entry(
-        start,
-        end,
-        handler,
-        stack_depth,
-        exception_stack_count,
-        handled,
-        exceptions,
-    );
-    writing::leave(answer, state)
+    writing::leave(
+        before.add_exception_entry(
+            start,
+            end,
+            handler,
+            stack_depth,
+            exception_stack_count,
+            handled,
+            exceptions,
+        ),
+        state,
+    )
 }
 
 // Opens a region of live code at a depth.
+#[tactic(auto, unfolding(crate::specs::Exports::new_code_region_in, crate::specs::Exports::held))]
 pub fn tfb_new_code_region(depth: u16, state: &mut [u64], starts: &mut [u32]) -> u64
     ensures { KeptLeaves (new_code_region_in depth state.old starts.old)
         state.old result state.new starts.new }
 {
-    let held = reading::state_in(state);
-    let State::Is(before) = held else {
+    let Some(before) = reading::state_in(state) else {
         return refusals::answer(Refusal::Unsound);
     };
-    let answer = before.new_code_region(depth, starts);
-    writing::leave(answer, state)
+    writing::leave(before.new_code_region(depth, starts), state)
 }
 
 // Finishes the body: slots without a name get `fill`.
+#[tactic(auto, unfolding(crate::specs::Exports::build_in, crate::specs::Exports::held))]
 pub fn tfb_build(fill: u32, state: &mut [u64], names: &mut [u64], marks: &[u32]) -> u64
     ensures { KeptLeaves (build_in fill state.old names.old marks.now)
         state.old result state.new names.new }
 {
-    let held = reading::state_in(state);
-    let State::Is(before) = held else {
+    let Some(before) = reading::state_in(state) else {
         return refusals::answer(Refusal::Unsound);
     };
-    let answer = before.build(fill, names, marks);
-    writing::leave(answer, state)
+    writing::leave(before.build(fill, names, marks), state)
 }
 
 // What a builder answers about itself: `current_offset`, `stack_depth`, `is_dead` and `current_position`.
+#[tactic(auto, unfolding(crate::specs::Exports::look_in, crate::specs::Exports::held))]
 pub fn tfb_look(state: &[u64], out: &mut [u64]) -> u64
     ensures { look result out.new ≡ look_in state.now out.old }
 {
-    let held = reading::state_in(state);
-    let State::Is(here) = held else {
+    let Some(here) = reading::state_in(state) else {
         return refusals::answer(Refusal::Unsound);
     };
     if out.len() < LOOK_CELLS {

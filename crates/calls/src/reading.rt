@@ -1,101 +1,76 @@
 // What lent cells and the numbers beside them hold.
-ghost use Rattle.calls.specs.State.{depth_in, focus_in, kind_in, label_in, location_in, state_in, target_in};
-ghost use Rattle.std.specs.Prelude.{◌≡◌};
+ghost use Rattle.calls.specs.State.{depth_in, focus_in, kind_in, label_in, location_in, state_cells, state_in, target_in};
+ghost use Rattle.calls.specs.Inner.{range_in};
+ghost use Rattle.std.specs.Prelude.{◌≡◌, ◌≤◌, length, IfSome};
 
-use crate::{DEAD_DEPTH, DEAD_ROW, DepthIn, FocusIn, KindIn, LocationIn, STATE_CELLS, State};
+use crate::{DEAD_DEPTH, DEAD_ROW, STATE_CELLS};
 use builder::{Builder, Core, Depth, JumpLabel, JumpTarget, Location};
 use code::{CodeRange, Focus, HandlerKind};
 
-// The greatest offset of a source.
-const OFFSET_MAX: u64 = 4294967295;
-
-pub fn depth_in(number: u64) -> DepthIn
+pub fn depth_in(number: u64) -> Option<Depth>
     ensures { result ≡ depth_in number }
 {
-    if number < DEAD_DEPTH {
-        return DepthIn::Is(Depth::Live(number as u16));
-    }
     if number == DEAD_DEPTH {
-        return DepthIn::Is(Depth::Dead);
+        return Some(Depth::Dead);
     }
-    DepthIn::Nothing
+    let depth = u16::try_from(number).ok()?;
+    Some(Depth::Live(depth))
 }
 
-pub fn focus_in(flag: u64, start: u64, end: u64) -> FocusIn
+// A range, if both offsets fit a source.
+fn range_in(start: u64, end: u64) -> Option<CodeRange>
+    ensures { result ≡ range_in start end }
+{
+    let start = u32::try_from(start).ok()?;
+    let end = u32::try_from(end).ok()?;
+    Some(CodeRange { start, end })
+}
+
+pub fn focus_in(flag: u64, start: u64, end: u64) -> Option<Focus>
     ensures { result ≡ focus_in flag start end }
 {
-    if flag == 0 {
-        return FocusIn::Is(Focus::Absent);
+    match flag {
+        0 => Some(Focus::Absent),
+        1 => {
+            let range = range_in(start, end)?;
+            Some(Focus::Present(range))
+        }
+        _ => None,
     }
-    if flag != 1 {
-        return FocusIn::Nothing;
-    }
-    if OFFSET_MAX < start {
-        return FocusIn::Nothing;
-    }
-    if OFFSET_MAX < end {
-        return FocusIn::Nothing;
-    }
-    FocusIn::Is(Focus::Present(CodeRange {
-        start: start as u32,
-        end: end as u32,
-    }))
 }
 
-fn location_in(set: u64, start: u64, end: u64, focus: FocusIn) -> LocationIn
+fn location_in(set: u64, start: u64, end: u64, focus: Option<Focus>) -> Option<Location>
     ensures { result ≡ location_in set start end focus }
 {
-    if set == 0 {
-        return LocationIn::Is(Location::Unset);
+    match set {
+        0 => Some(Location::Unset),
+        1 => {
+            let range = range_in(start, end)?;
+            Some(Location::Set(range, focus?))
+        }
+        _ => None,
     }
-    if set != 1 {
-        return LocationIn::Nothing;
-    }
-    if OFFSET_MAX < start {
-        return LocationIn::Nothing;
-    }
-    if OFFSET_MAX < end {
-        return LocationIn::Nothing;
-    }
-    let FocusIn::Is(f) = focus else {
-        return LocationIn::Nothing;
-    };
-    LocationIn::Is(Location::Set(
-        CodeRange {
-            start: start as u32,
-            end: end as u32,
-        },
-        f,
-    ))
 }
 
 // The state that cells hold.
-pub fn state_in(cells: &[u64]) -> State
-    ensures { result ≡ state_in cells.now }
+#[tactic(auto, unfolding(crate::specs::State::state_in))]
+pub fn state_in(cells: &[u64]) -> Option<Builder>
+    ensures state { result ≡ state_in cells.now }
+    ensures enough { IfSome result (λ _. state_cells ≤ length cells.now) }
 {
     if cells.len() < STATE_CELLS {
-        return State::Nothing;
+        return None;
     }
-    let deep = depth_in(cells[4]);
-    let DepthIn::Is(depth) = deep else {
-        return State::Nothing;
-    };
-    let placed = location_in(
-        cells[9],
-        cells[10],
-        cells[11],
-        focus_in(cells[12], cells[13], cells[14]),
-    );
-    let LocationIn::Is(location) = placed else {
-        return State::Nothing;
-    };
+    let depth = depth_in(cells[4])?;
+    let focus = focus_in(cells[12], cells[13], cells[14]);
+    let location = location_in(cells[9], cells[10], cells[11], focus)?;
     let core = Core {
         code: cells[1] as usize,
         locations: cells[2] as usize,
         marks: cells[3] as usize,
         depth,
     };
-    State::Is(Builder {
+    Some(Builder {
         core,
         location,
         exceptions: cells[5] as usize,
@@ -105,32 +80,31 @@ pub fn state_in(cells: &[u64]) -> State
     })
 }
 
+// These types are other crates', as `From` and `TryFrom` are, so a function reads each.
 pub fn label_in(number: u64) -> JumpLabel
     ensures { result ≡ label_in number }
 {
-    if number == DEAD_ROW {
-        return JumpLabel::Dead;
+    match number {
+        DEAD_ROW => JumpLabel::Dead,
+        row => JumpLabel::Row(row as usize),
     }
-    JumpLabel::Row(number as usize)
 }
 
 pub fn target_in(number: u64) -> JumpTarget
     ensures { result ≡ target_in number }
 {
-    if number == DEAD_ROW {
-        return JumpTarget::Dead;
+    match number {
+        DEAD_ROW => JumpTarget::Dead,
+        row => JumpTarget::Row(row as usize),
     }
-    JumpTarget::Row(number as usize)
 }
 
-pub fn kind_in(number: u8) -> KindIn
+pub fn kind_in(number: u8) -> Option<HandlerKind>
     ensures { result ≡ kind_in number }
 {
-    if number == 0 {
-        return KindIn::Is(HandlerKind::Consuming);
+    match number {
+        0 => Some(HandlerKind::Consuming),
+        1 => Some(HandlerKind::Cleanup),
+        _ => None,
     }
-    if number == 1 {
-        return KindIn::Is(HandlerKind::Cleanup);
-    }
-    KindIn::Nothing
 }

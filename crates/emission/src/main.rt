@@ -78,15 +78,12 @@ fn rule(
     marks: &mut [u32; 10000],
     starts: &mut [u32; 2],
 ) -> usize {
-    let made = Builder::new(Depth::Live(0), starts);
-    let Answer::Accepted(first) = made else {
+    let Answer::Accepted(first) = Builder::new(Depth::Live(0), starts) else {
         return 0;
     };
     let mut b = first;
-    let mut i = 0;
-    while i < TURNS {
+    for i in 0..TURNS {
         b = turn(b, i, code, locations, marks);
-        i += 1;
     }
     let whole = ending(b, code, locations);
     whole.current_offset()
@@ -100,10 +97,8 @@ fn rounds(
     starts: &mut [u32; 2],
 ) -> usize {
     let mut size = 0;
-    let mut i = 0;
-    while i < ROUNDS {
+    for _ in 0..ROUNDS {
         size = rule(code, locations, marks, starts);
-        i += 1;
     }
     size
 }

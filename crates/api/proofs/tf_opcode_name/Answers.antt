@@ -1,15 +1,9 @@
--- `api::tf_opcode_name` meets its contract: what `of_opcode` answers over the two tables is the name, and `copy`
--- writes it.
+-- `api::tf_opcode_name` meets its contract: what `of_opcode` answers over the two tables is the name, and
+-- `copy_from_slice` writes it.
 -- Assumes nothing.
 use mathlib.Core.Path.{◌∙◌}
-use Rattle.api.proofs.Naming.{name_unknown, name_is, name_full, name_written}
+use Rattle.api.proofs.Naming.{name_is, name_full, name_written}
 use Rattle.api.proofs.tf_opcode_name.Goals as goal
-
-pub returns-then-opcode-gt-LAST : goal.returns-then-opcode-gt-LAST
-returns-then-opcode-gt-LAST c =
-    let a = c.args in
-    let n = name_unknown a.opcode a.out.now c.if-opcode-gt-LAST.true in
-    (c.refused.ensures ∙ n.0, n.1)
 
 pub returns-then-out-name : goal.returns-then-out-name
 returns-then-out-name c =
@@ -22,8 +16,7 @@ returns-then-out-name c =
 pub returns : goal.returns
 returns c =
     let a = c.args in
-    let w = c.copy.ensures in
     let n = name_written a.opcode _ a.out.now c.if-opcode-gt-LAST.false
     (name_is a.opcode _ _ _ c.if-opcode-gt-LAST.false c.of_opcode-name.ensures c.text-text.ensures
     c.starts-starts.ensures) c.if-out-name.false in
-    (w.0 ∙ n.0, w.1 ∙ n.1)
+    (n.0, rw c.copy_from_slice.ensures.after n.1)
