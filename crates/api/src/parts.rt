@@ -11,19 +11,8 @@ pub fn tell_part(listed: Result<Part, Refusal>, out: &mut [u64]) -> u64
     ensures { Tells (part_told listed) out.old result out.new }
 {
     match listed {
-<<<<<<< HEAD
-        Ok(part) => {
-            if 0 < part.length {
-                let given = [part.length as u64, part.next as u64];
-                return cells::tell(&given, out);
-            }
-            0
-        }
+        Ok(part) if part.length == 0 => 0,
+        Ok(part) => cells::tell(&[part.length as u64, part.next as u64], out),
         Err(refusal) => answers::refused(refusal),
-=======
-        Listed::Part { length: 0, .. } => 0,
-        Listed::Part { length, next } => cells::tell(&[length as u64, next as u64], out),
-        Listed::Refused(refusal) => answers::refused(refusal),
->>>>>>> 5268820e42e210989646c6360c877cfd488ea2d9
     }
 }

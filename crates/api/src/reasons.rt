@@ -5,13 +5,8 @@ ghost use Rattle.strict.specs.Promise.{answer_of};
 ghost use Rattle.api.specs.Answers.{refused};
 ghost use Rattle.api.specs.Checks.{check_answer, greatest_told, reason_numbers, reason_cells};
 
-<<<<<<< HEAD
-use crate::{answers, cells};
-use checker::{Assignment, Reason};
-=======
 use crate::answers;
-use checker::Reason;
->>>>>>> 5268820e42e210989646c6360c877cfd488ea2d9
+use checker::{Assignment, Reason};
 use op::Refusal;
 use strict::Unfit;
 
@@ -45,19 +40,12 @@ pub fn tell_verdict(verdict: Result<Assignment, Unfit>, greatest: &mut u32, out:
         × (out.new ≡ reason_cells verdict out.old) }
 {
     match verdict {
-<<<<<<< HEAD
         Ok(assignment) => answers::tell_accepted(assignment, greatest),
         Err(Unfit::Refused(refusal)) => answers::refused(refusal),
-        Err(Unfit::Unsolved(reason)) => tell_reason(reason, out),
-        Err(Unfit::TooFew { at, depth, need }) => tell_too_few(at, depth, need, out),
-=======
-        Verdict::Accepted(assignment) => answers::tell_accepted(assignment, greatest),
-        Verdict::Refused(refusal) => answers::refused(refusal),
-        Verdict::Unsolved(reason) => tell_why(Refusal::NoDepths, numbers_of(reason), out),
-        Verdict::TooFew { at, depth, need } => {
+        Err(Unfit::Unsolved(reason)) => tell_why(Refusal::NoDepths, numbers_of(reason), out),
+        Err(Unfit::TooFew { at, depth, need }) => {
             let why = [5, at as u64, depth as u64, need as u64];
             tell_why(Refusal::TooFewValues(at), why, out)
         }
->>>>>>> 5268820e42e210989646c6360c877cfd488ea2d9
     }
 }
