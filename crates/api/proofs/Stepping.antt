@@ -1,7 +1,8 @@
 -- Laws of the step's eight cells. They give the operand back: what a step tells is what `tf_stack_effect` and
 -- `tf_write` take.
 -- Assumes nothing.
-use Rattle.std.specs.Prelude.{Some, Option}
+use Rattle.code.specs.Decode.{instr}
+use Rattle.std.specs.Prelude.{Some, Option, Ok}
 use mathlib.Core.Path.{◌≡◌, refl, sym, ap, ◌∙◌}
 use mathlib.Core.List.{List}
 use Prim.Native.Nat.{ℕ, ◌<◌}
@@ -14,7 +15,6 @@ use Rattle.op.specs.declared.Operand.{Operand}
 use Rattle.op.specs.declared.Operand.TheVariants as O
 use Rattle.code.specs.Bytes.{signed, unsigned}
 use Rattle.code.specs.Decode.{names_in, decode}
-use Rattle.code.specs.declared.Step.TheVariants.{Instr}
 use Rattle.code.proofs.Decoding.{decoded}
 use Rattle.code.proofs.Ranges.{InRange, decoded_range}
 use Rattle.code.proofs.Twos.{unsigned_small, signed_unsigned}
@@ -46,5 +46,5 @@ given_back (O.U16U16U8 a b c) h = refl
 
 -- so do those that a step tells
 pub step_given : (u : List ℕ) → ((i : ℕ) → get_or u i 0 < 256) → (at k : ℕ) (o : Operand) (z : ℕ)
-    → decode last_opcode at u ≡ Instr k o z → regiven o ≡ Some o
+    → decode last_opcode at u ≡ Ok (Some (instr k o z)) → regiven o ≡ Some o
 step_given u bytes at k o z e = given_back o (decoded_range u bytes k o z (decoded _ at u k o z e))

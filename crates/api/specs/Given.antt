@@ -1,19 +1,14 @@
 -- An operand and a comparison given as numbers.
 -- Assumes nothing.
+use Rattle.op.specs.declared.CmpOperator.{CmpOperator}
+use Rattle.op.specs.declared.Effect.{Effect}
 use Rattle.op.specs.declared.Operand.{Operand}
-use Rattle.std.specs.Prelude.{cond, List, [], ◌∷◌, ℕ, ltb, get_or, Some, None, Option}
+use Rattle.std.specs.Prelude.{cond, List, [], ◌∷◌, ℕ, ltb, get_or, Some, None, Option, Err, Result}
 use Rattle.op.specs.Depths.{after_of}
 use Rattle.op.specs.Effects.{effect_of}
 use Rattle.op.specs.Flags.{comparison_number, flags_of}
 use Rattle.op.specs.Opcodes.{known}
-use Rattle.op.specs.declared.After.{After}
-use Rattle.op.specs.declared.After.TheVariants as A
-use Rattle.op.specs.declared.AssertFlags.{AssertFlags}
-use Rattle.op.specs.declared.AssertFlags.TheVariants as F
 use Rattle.op.specs.declared.CmpOperator.TheVariants.{Eq, NotEq, Lt, LtE, Gt, GtE, Is, IsNot, In, NotIn}
-use Rattle.op.specs.declared.Compared.TheVariants as C
-use Rattle.op.specs.declared.Effect.{Effect}
-use Rattle.op.specs.declared.Effect.TheVariants as E
 use Rattle.op.specs.declared.Operand.TheVariants as O
 use Rattle.op.specs.declared.Refusal.{Refusal}
 use Rattle.op.specs.declared.Refusal.TheVariants.{UnknownOpcode, WrongShape}
@@ -49,28 +44,28 @@ abbrev pub unshaped : ℕ → Refusal
 unshaped k = cond (known k) WrongShape UnknownOpcode
 
 -- the effect with a given operand
-abbrev pub effect_given : ℕ → Option Operand → Effect
+abbrev pub effect_given : ℕ → Option Operand → Result Effect Refusal
 effect_given k (Some o) = effect_of k o
-effect_given k None = E.Refused (unshaped k)
+effect_given k None = Err (unshaped k)
 
 -- the depth after falling through with a given operand
-abbrev pub after_given : ℕ → ℕ → Option Operand → After
+abbrev pub after_given : ℕ → ℕ → Option Operand → Result ℕ Refusal
 after_given d k (Some o) = after_of d k o
-after_given d k None = A.Refused (unshaped k)
+after_given d k None = Err (unshaped k)
 
 -- the flags bytes of the comparisons in the order of their numbers, then of none
 abbrev pub flag_bytes : List ℕ
 flag_bytes =
-    flags_of (C.With Eq) ∷ flags_of (C.With NotEq) ∷ flags_of (C.With Lt) ∷ flags_of (C.With LtE) ∷ flags_of (C.With Gt) ∷
-    flags_of (C.With GtE) ∷ flags_of (C.With Is) ∷ flags_of (C.With IsNot) ∷ flags_of (C.With In) ∷ flags_of (C.With NotIn) ∷
-    flags_of C.Nothing ∷ []
+    flags_of (Some Eq) ∷ flags_of (Some NotEq) ∷ flags_of (Some Lt) ∷ flags_of (Some LtE) ∷ flags_of (Some Gt) ∷
+    flags_of (Some GtE) ∷ flags_of (Some Is) ∷ flags_of (Some IsNot) ∷ flags_of (Some In) ∷ flags_of (Some NotIn) ∷
+    flags_of None ∷ []
 
 -- the flags byte of a comparison's number, 10 for none; 0xFF for any other number
 unfoldable pub flags_given : ℕ → ℕ
 flags_given n = get_or flag_bytes n 255
 
 -- a decoded byte: the comparison's number, 10 for none, 11 for an invalid byte
-abbrev pub flags_answer : AssertFlags → ℕ
-flags_answer (F.Valid C.Nothing) = 10
-flags_answer (F.Valid (C.With operator)) = comparison_number operator
-flags_answer F.Invalid = 11
+abbrev pub flags_answer : Option (Option CmpOperator) → ℕ
+flags_answer (Some None) = 10
+flags_answer (Some (Some operator)) = comparison_number operator
+flags_answer None = 11

@@ -1,6 +1,7 @@
 -- What a step of the decoder tells, and the writer's answer for an operand given as numbers.
 -- Assumes nothing.
-use Rattle.std.specs.Prelude.{◌≡◌, cond, List, [], ◌∷◌, ℕ, ◌+◌, ◌-◌, ◌*◌, leb, length, Some, None, Option}
+use Rattle.code.specs.Decode.{Step}
+use Rattle.std.specs.Prelude.{◌≡◌, cond, List, [], ◌∷◌, ℕ, ◌+◌, ◌-◌, ◌*◌, leb, length, Some, None, Option, Ok, Err, Result}
 use Rattle.op.specs.Opcodes.{known}
 use Rattle.op.specs.Shapes.{shape_number, operand_shape}
 use Rattle.op.specs.declared.Operand.{Operand}
@@ -10,10 +11,6 @@ use Rattle.op.specs.declared.Refusal.TheVariants.{UnknownOpcode, WrongShape, Too
 use Rattle.code.specs.Bytes.{unsigned}
 use Rattle.code.specs.Decode.{names_in}
 use Rattle.code.specs.Encode.{encode, written_of, filled}
-use Rattle.code.specs.declared.Step.{Step}
-use Rattle.code.specs.declared.Step.TheVariants as S
-use Rattle.code.specs.declared.Written.{Written}
-use Rattle.code.specs.declared.Written.TheVariants as W
 use Rattle.api.specs.Answers.{refused}
 use Rattle.api.specs.Told.{Told, numbers, nothing, refusal}
 use Rattle.api.specs.declared.Values.{Values}
@@ -51,18 +48,18 @@ instruction at k o size =
 
 -- a step from an offset
 abbrev pub step_told : ℕ → Step → Told
-step_told at (S.Instr k o size) = numbers (instruction at k o size)
-step_told at S.End = nothing
-step_told at (S.Refused r) = refusal r
+step_told at (Ok (Some i)) = numbers (instruction at i.opcode i.operand i.size)
+step_told at (Ok None) = nothing
+step_told at (Err r) = refusal r
 
 -- why n names aren't written where there is no operand for them: 1, 7, then 2
 abbrev pub unwritten : ℕ → ℕ → Refusal
 unwritten k n = cond (known k) (cond (leb n 255) WrongShape TooManyKeywords) UnknownOpcode
 
 -- the writer's answer for a given operand, n names and so many bytes of room
-abbrev pub written_given : ℕ → Option Operand → ℕ → ℕ → Written
+abbrev pub written_given : ℕ → Option Operand → ℕ → ℕ → Result ℕ Refusal
 written_given k (Some o) n room = written_of k o n room
-written_given k None n room = W.Refused (unwritten k n)
+written_given k None n room = Err (unwritten k n)
 
 -- the bytes that were lent to it
 abbrev pub filled_given : ℕ → Option Operand → List ℕ → List ℕ → List ℕ
@@ -70,9 +67,9 @@ filled_given k (Some o) names out = filled (written_of k o (length names) (lengt
 filled_given k None names out = out
 
 -- the instruction's size
-abbrev pub written_answer : Written → ℕ
-written_answer (W.Size size) = size
-written_answer (W.Refused r) = refused r
+abbrev pub written_answer : Result ℕ Refusal → ℕ
+written_answer (Ok size) = size
+written_answer (Err r) = refused r
 
 -- the answer, and every byte that was lent
 pub record WritesGiven (k : ℕ) (g : Option Operand) (names out : List ℕ) (answer : ℕ) (out' : List ℕ) : Type 0 where

@@ -2,14 +2,13 @@
 ghost use Rattle.std.specs.Prelude.{◌≡◌, ◌%◌};
 ghost use Rattle.op.specs.Effects.{net_of};
 ghost use Rattle.op.specs.Refusals.{half};
-ghost use Rattle.op.specs.declared.AssertFlags.TheVariants.{Valid};
 ghost use Rattle.api.specs.Answers.{refused, net_answer, depth_answer};
 ghost use Rattle.api.specs.Checks.{check_answer, greatest_told};
 ghost use Rattle.api.specs.Given.{flags_answer};
 ghost use Rattle.api.specs.Typed.{read_answer};
 
 use checker::Assignment;
-use op::{After, Compared, Effect, Refusal};
+use op::{Effect, Refusal};
 use readback::BadLine;
 
 // A refusal's answer.
@@ -20,22 +19,22 @@ pub fn refused(refusal: Refusal) -> u64
 }
 
 // An effect's answer.
-pub fn of_effect(effect: Effect) -> u64
+pub fn of_effect(effect: Result<Effect, Refusal>) -> u64
     ensures { result ≡ net_answer (net_of effect) }
 {
     match effect {
-        Effect::By { up, down } => u64::from(up.wrapping_sub(down)),
-        Effect::Refused(refusal) => refused(refusal),
+        Ok(Effect { up, down }) => u64::from(up.wrapping_sub(down)),
+        Err(refusal) => refused(refusal),
     }
 }
 
 // A depth's answer.
-pub fn of_depth(after: After) -> u64
+pub fn of_depth(after: Result<u16, Refusal>) -> u64
     ensures { result ≡ depth_answer after }
 {
     match after {
-        After::Depth(depth) => depth as u64,
-        After::Refused(refusal) => refused(refusal),
+        Ok(depth) => depth as u64,
+        Err(refusal) => refused(refusal),
     }
 }
 
@@ -76,11 +75,11 @@ pub fn of_readback(readback: Result<usize, BadLine>) -> u64
 }
 
 // The number of what an assert compares by, 10 for nothing.
-pub fn of_compared(compared: Compared) -> u8
-    ensures { result ≡ flags_answer (Valid compared) }
+pub fn of_compared(compared: Option<CmpOperator>) -> u8
+    ensures { result ≡ flags_answer (Some compared) }
 {
     match compared {
-        Compared::Nothing => 10,
-        Compared::With(operator) => op::flags::as_operand(operator),
+        None => 10,
+        Some(operator) => op::flags::as_operand(operator),
     }
 }

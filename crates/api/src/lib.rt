@@ -26,8 +26,8 @@ ghost use Rattle.api.specs.Typed.{ReadsTold};
 ghost use Rattle.api.specs.Steps.{step_told, WritesGiven};
 ghost use Rattle.api.specs.Tables.{located_told, handled_told, constant_told, name_told};
 
-use code::{CODE_LIMIT, Constant, Count, Handled, LocalName, Located, Step};
-use op::{AssertFlags, CmpOperator, Compared, Deadness, Refusal, Shaped, Table};
+use code::{CODE_LIMIT, Step};
+use op::{CmpOperator, Refusal, Table};
 use text::listing;
 
 mod answers;
@@ -52,8 +52,8 @@ pub fn tf_operand_shape(opcode: u8) -> u64
     ensures { result ≡ shape_answer (shape_of opcode) }
 {
     match op::shapes::operand_shape(opcode) {
-        Shaped::Is(shape) => op::shapes::number(shape) as u64,
-        Shaped::Refused(refusal) => answers::refused(refusal),
+        Ok(shape) => op::shapes::number(shape) as u64,
+        Err(refusal) => answers::refused(refusal),
     }
 }
 
@@ -73,9 +73,9 @@ pub fn tf_makes_dead(opcode: u8) -> u64
     ensures { result ≡ dead_answer (deadness_of opcode) }
 {
     match op::effects::makes_dead(opcode) {
-        Deadness::Dead => 1,
-        Deadness::Live => 0,
-        Deadness::Refused(refusal) => answers::refused(refusal),
+        Ok(true) => 1,
+        Ok(false) => 0,
+        Err(refusal) => answers::refused(refusal),
     }
 }
 
@@ -95,8 +95,8 @@ pub fn tf_instruction_size(opcode: u8, names: u8) -> u64
     ensures { result ≡ size_answer (shape_of opcode) names }
 {
     match op::shapes::operand_shape(opcode) {
-        Shaped::Is(shape) => op::shapes::instruction_size(shape, names) as u64,
-        Shaped::Refused(refusal) => answers::refused(refusal),
+        Ok(shape) => op::shapes::instruction_size(shape, names) as u64,
+        Err(refusal) => answers::refused(refusal),
     }
 }
 
@@ -133,18 +133,18 @@ pub fn tf_assert_flags(comparison: u8) -> u8
         7 => CmpOperator::IsNot,
         8 => CmpOperator::In,
         9 => CmpOperator::NotIn,
-        10 => return op::flags::assert_flags(Compared::Nothing),
+        10 => return op::flags::assert_flags(None),
         _ => return 255,
     };
-    op::flags::assert_flags(Compared::With(operator))
+    op::flags::assert_flags(Some(operator))
 }
 
 pub fn tf_decode_assert_flags(flags: u8) -> u8
     ensures { result ≡ flags_answer (decoded_flags flags) }
 {
     match op::flags::decode_assert_flags(flags) {
-        AssertFlags::Valid(compared) => answers::of_compared(compared),
-        AssertFlags::Invalid => 11,
+        Some(compared) => answers::of_compared(compared),
+        None => 11,
     }
 }
 
@@ -168,8 +168,8 @@ pub fn tf_count_instructions(code: &[u8]) -> u64
         return answers::refused(Refusal::TooLarge);
     }
     match code::reading::count(code) {
-        Count::Whole(n) => n as u64,
-        Count::Stopped(_, refusal) => answers::refused(refusal),
+        Ok(n) => n as u64,
+        Err(Stopped { count: _, refusal }) => answers::refused(refusal),
     }
 }
 
@@ -178,13 +178,9 @@ pub fn tf_step(code: &[u8], at: usize, out: &mut [u64]) -> u64
         out.new }
 {
     match code::decoder::step_at(code, at) {
-        Step::Instr {
-            opcode,
-            operand,
-            size,
-        } => steps::tell_instruction(at, opcode, operand, size, out),
-        Step::End => 0,
-        Step::Refused(refusal) => answers::refused(refusal),
+        Ok(Some(Instr { opcode, operand, size })) => steps::tell_instruction(at, opcode, operand, size, out),
+        Ok(None) => 0,
+        Err(refusal) => answers::refused(refusal),
     }
 }
 
@@ -269,8 +265,8 @@ pub fn tf_location_for_offset(rows: &[u32], offset: usize, out: &mut [u64]) -> u
         out.new }
 {
     match code::lookups::location_for_offset(rows, offset) {
-        Located::Row(number, row) => tables::tell_location(number, row, out),
-        Located::Absent => 0,
+        Some((number, row)) => tables::tell_location(number, row, out),
+        None => 0,
     }
 }
 
@@ -279,8 +275,8 @@ pub fn tf_find_exception_handler(rows: &[u32], offset: u32, out: &mut [u64]) -> 
         out.new }
 {
     match code::lookups::find_exception_handler(rows, offset) {
-        Handled::Row(number, row) => tables::tell_handler(number, row, out),
-        Handled::Absent => 0,
+        Some((number, row)) => tables::tell_handler(number, row, out),
+        None => 0,
     }
 }
 
@@ -304,8 +300,8 @@ pub fn tf_constant(constants: &[u64], index: usize, out: &mut [u64]) -> u64
         out.new }
 {
     match code::lookups::constant(constants, index) {
-        Constant::Value(value) => cells::tell(&[value], out),
-        Constant::Absent => 0,
+        Some(value) => cells::tell(&[value], out),
+        None => 0,
     }
 }
 
@@ -313,8 +309,8 @@ pub fn tf_local_name(names: &[u64], slot: usize, out: &mut [u64]) -> u64
     ensures { Tells (name_told (local_name_of names.now slot)) out.old result out.new }
 {
     match code::lookups::local_name(names, slot) {
-        LocalName::Name(number) => cells::tell(&[number as u64], out),
-        LocalName::Absent => 0,
+        Some(number) => cells::tell(&[number as u64], out),
+        None => 0,
     }
 }
 

@@ -3,7 +3,7 @@ ghost use Rattle.std.specs.Prelude.{◌≡◌, cond, ltb};
 ghost use Rattle.api.specs.Given.{given_of, unshaped, effect_given, after_given};
 
 use code::signs;
-use op::{After, Effect, Operand, Refusal};
+use op::{Effect, Operand, Refusal};
 
 // A byte, if a number is one.
 fn byte(x: u16) -> Option<u8>
@@ -53,21 +53,21 @@ fn no_operand(opcode: u8) -> Refusal
 }
 
 // The effect with a given operand.
-pub fn effect(opcode: u8, given: Option<Operand>) -> Effect
+pub fn effect(opcode: u8, given: Option<Operand>) -> Result<Effect, Refusal>
     ensures { result ≡ effect_given opcode given }
 {
     match given {
         Some(operand) => op::effects::effect(opcode, operand),
-        None => Effect::Refused(no_operand(opcode)),
+        None => Err(no_operand(opcode)),
     }
 }
 
 // The depth after falling through with a given operand.
-pub fn after(depth: u16, opcode: u8, given: Option<Operand>) -> After
+pub fn after(depth: u16, opcode: u8, given: Option<Operand>) -> Result<u16, Refusal>
     ensures { result ≡ after_given depth opcode given }
 {
     match given {
         Some(operand) => op::depths::after(depth, opcode, operand),
-        None => After::Refused(no_operand(opcode)),
+        None => Err(no_operand(opcode)),
     }
 }

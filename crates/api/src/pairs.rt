@@ -6,7 +6,7 @@ ghost use Rattle.api.specs.Tables.{handled_told};
 ghost use Rattle.api.specs.Told.{Tells};
 
 use crate::{answers, tables};
-use code::{ExceptionEntry, Found, HandlerKind, HandlerRow};
+use code::{ExceptionEntry, HandlerKind, HandlerRow};
 use op::Refusal;
 
 // A kind by its number, if it is one. The types here are crate `code`'s, so these are no `From` and no `TryFrom`.
@@ -79,12 +79,12 @@ fn row_of(entry: ExceptionEntry) -> HandlerRow
 }
 
 // Tells what was found.
-fn tell_found(found: Found, out: &mut [u64]) -> u64
+fn tell_found(found: Option<(usize, ExceptionEntry)>, out: &mut [u64]) -> u64
     ensures { Tells (handled_told (flat_answer found)) out.old result out.new }
 {
     match found {
-        Found::Row(number, entry) => tables::tell_handler(number, row_of(entry), out),
-        Found::Absent => 0,
+        Some((number, entry)) => tables::tell_handler(number, row_of(entry), out),
+        None => 0,
     }
 }
 

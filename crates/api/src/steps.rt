@@ -1,12 +1,11 @@
 // What a step tells, and instructions given as numbers.
 ghost use Rattle.std.specs.Prelude.{◌≡◌, ◌+◌, ◌*◌, ◌<◌, ◌≤◌};
 ghost use Rattle.code.specs.Decode.{names_in};
-ghost use Rattle.code.specs.declared.Step.TheVariants.{Instr};
 ghost use Rattle.api.specs.Told.{Tells};
 ghost use Rattle.api.specs.Steps.{values, values_of, step_told, unwritten, written_answer, WritesGiven};
 
 use crate::{Values, answers, cells};
-use code::{Written, decoder, signs, writer};
+use code::{decoder, signs, writer};
 use op::{Operand, Refusal, shapes};
 
 impl Values {
@@ -85,12 +84,12 @@ pub fn no_write(opcode: u8, names: usize) -> Refusal
 }
 
 // A writer's answer.
-fn of_written(written: Written) -> u64
+fn of_written(written: Result<usize, Refusal>) -> u64
     ensures { result ≡ written_answer written }
 {
     match written {
-        Written::Size(size) => size as u64,
-        Written::Refused(refusal) => answers::refused(refusal),
+        Ok(size) => size as u64,
+        Err(refusal) => answers::refused(refusal),
     }
 }
 

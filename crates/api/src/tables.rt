@@ -1,6 +1,4 @@
 // What the lookups tell.
-ghost use Rattle.code.specs.declared.Handled.TheVariants as Handling;
-ghost use Rattle.code.specs.declared.Located.TheVariants as Locating;
 ghost use Rattle.api.specs.Told.{Tells};
 ghost use Rattle.api.specs.Tables.{located_told, handled_told};
 
@@ -9,7 +7,7 @@ use code::{HandlerRow, LocationRow};
 
 // Tells a row of the location table.
 pub fn tell_location(number: usize, row: LocationRow, out: &mut [u64]) -> u64
-    ensures { Tells (located_told (Locating.Row number row)) out.old result out.new }
+    ensures { Tells (located_told (Some (number, row))) out.old result out.new }
 {
     let given = [
         number as u64,
@@ -25,7 +23,7 @@ pub fn tell_location(number: usize, row: LocationRow, out: &mut [u64]) -> u64
 
 // Tells a row of the exception table.
 pub fn tell_handler(number: usize, row: HandlerRow, out: &mut [u64]) -> u64
-    ensures { Tells (handled_told (Handling.Row number row)) out.old result out.new }
+    ensures { Tells (handled_told (Some (number, row))) out.old result out.new }
 {
     let given = [
         number as u64,

@@ -1,5 +1,6 @@
 -- A state that was written is the one that is read.
 -- Assumes nothing.
+use Rattle.builder.specs.declared.Location.{Location}
 use Rattle.std.specs.Prelude.{Some, None, Option}
 use mathlib.Core.Path.{◌≡◌, refl, ap}
 use mathlib.Core.List.{List}
@@ -9,33 +10,28 @@ use lib.ListN.{length, get_or, length-drop}
 use lib.Seq.{get_or-drop}
 use borrow.Author.Tests.{lt-ltb, le-leb}
 use Rattle.code.specs.Bytes.{front}
-use Rattle.code.specs.declared.Focus.TheVariants.{Absent, Present}
 use Rattle.builder.specs.Answers.{dead_depth, depth_number}
 use Rattle.builder.specs.State.{with_core}
 use Rattle.builder.specs.declared.Builder.{Builder}
 use Rattle.builder.specs.declared.Core.{Core}
-use Rattle.builder.specs.declared.Depth.{Depth}
-use Rattle.builder.specs.declared.Depth.TheVariants.{Dead, Live}
-use Rattle.builder.specs.declared.Location.{Location}
-use Rattle.builder.specs.declared.Location.TheVariants.{Unset, Set}
 use Rattle.calls.specs.Back.{CoreBack, DepthFits, LocationFits, StateBack}
 use Rattle.calls.specs.State.{cells_of, core_of, depth_in, focus_in, location_in, offset_max, place_of, state_cells}
 use Rattle.calls.specs.State.{state_in, state_with}
 use Rattle.calls.proofs.Held.{enough}
 
-depth_back : (d : Depth) → DepthFits d → depth_in (depth_number d) ≡ Some d
-depth_back Dead h = refl
-depth_back (Live d) h = simp (lt-ltb d dead_depth h)
+depth_back : (d : Option ℕ) → DepthFits d → depth_in (depth_number d) ≡ Some d
+depth_back None h = refl
+depth_back (Some d) h = simp (lt-ltb d dead_depth h)
 
-abbrev read : Location → Option Location
+abbrev read : Option Location → Option (Option Location)
 read l =
     let p = place_of l in
     location_in p.set p.start p.end (focus_in p.focus p.from p.to)
 
-location_back : (l : Location) → LocationFits l → read l ≡ Some l
-location_back Unset h = refl
-location_back (Set r Absent) h = simp (le-leb r.start offset_max h.0, le-leb r.end offset_max h.1)
-location_back (Set r (Present f)) h =
+location_back : (l : Option Location) → LocationFits l → read l ≡ Some l
+location_back None h = refl
+location_back (Some set) h = simp (le-leb set.range.start offset_max h.0, le-leb set.range.end offset_max h.1)
+location_back (Set r (Some f)) h =
     simp (
       le-leb r.start offset_max h.0.0,
       le-leb r.end offset_max h.0.1,
@@ -63,7 +59,7 @@ module _ (b : Builder) (k : Core) (value : ℕ) (cells : List ℕ) where
   over None = None
   over (Some x) = Some (with_core x k)
 
-  other : (d : Option Depth) (l : Option Location) → state_with d l cells ≡ Some b
+  other : (d : Option (Option ℕ)) (l : Option (Option Location)) → state_with d l cells ≡ Some b
       → state_with (Some k.depth) l after ≡ Some (with_core b k)
   other None l e =
       let z : ◌≡◌ {A = ℕ} 0 1 = cc in

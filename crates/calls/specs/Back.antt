@@ -1,31 +1,27 @@
 -- What is written is read back: a state's cells hold that state, and cells whose front a call wrote, which changes the
 -- core alone, hold the same state with the new core. The numbers are within their types, as every builder's are.
 -- Assumes nothing.
-use Rattle.std.specs.Prelude.{◌≡◌, List, ℕ, ◌≤◌, ◌<◌, length, Some}
+use Rattle.builder.specs.declared.Location.{Location}
+use Rattle.std.specs.Prelude.{◌≡◌, List, ℕ, ◌≤◌, ◌<◌, length, Some, None, Option}
 use Rattle.code.specs.Bytes.{front}
 use Rattle.code.specs.declared.CodeRange.{CodeRange}
-use Rattle.code.specs.declared.Focus.TheVariants.{Absent, Present}
 use Rattle.builder.specs.Answers.{dead_depth}
 use Rattle.builder.specs.State.{with_core}
 use Rattle.builder.specs.declared.Builder.{Builder}
 use Rattle.builder.specs.declared.Core.{Core}
-use Rattle.builder.specs.declared.Depth.{Depth}
-use Rattle.builder.specs.declared.Depth.TheVariants.{Dead, Live}
-use Rattle.builder.specs.declared.Location.{Location}
-use Rattle.builder.specs.declared.Location.TheVariants.{Unset, Set}
 use Rattle.calls.specs.State.{cells_of, core_of, offset_max, state_cells, state_in}
 
-abbrev pub DepthFits : Depth → Type 0
-DepthFits Dead = Unit {0}
-DepthFits (Live depth) = depth < dead_depth
+abbrev pub DepthFits : Option ℕ → Type 0
+DepthFits None = Unit {0}
+DepthFits (Some depth) = depth < dead_depth
 
 abbrev pub RangeFits : CodeRange → Type 0
 RangeFits range = (range.start ≤ offset_max) × (range.end ≤ offset_max)
 
-abbrev pub LocationFits : Location → Type 0
-LocationFits Unset = Unit {0}
-LocationFits (Set range Absent) = RangeFits range
-LocationFits (Set range (Present focus)) = RangeFits range × RangeFits focus
+abbrev pub LocationFits : Option Location → Type 0
+LocationFits None = Unit {0}
+LocationFits (Some set) = RangeFits set.range
+LocationFits (Set range (Some focus)) = RangeFits range × RangeFits focus
 
 abbrev pub StateBack : Type 0
 StateBack =

@@ -1,12 +1,13 @@
 -- What each export leaves: the builder's own outcome at the state that the cells hold. Cells that hold none: 19. An
 -- argument that the builder's call cannot be given: 2. Neither changes anything.
 -- Assumes nothing.
-use Rattle.std.specs.Prelude.{◌≡◌, Bool, true, false, cond, List, [], ◌∷◌, ℕ, ◌+◌, ◌*◌, leb, length, Some, None, Option}
+use Rattle.code.specs.declared.CodeRange.{CodeRange}
+use Rattle.op.specs.declared.Refusal.{Refusal}
+use Rattle.std.specs.Prelude.{◌≡◌, Bool, true, false, cond, List, [], ◌∷◌, ℕ, ◌+◌, ◌*◌, leb, length, Some, None, Option, Ok, Err, Result}
 use Rattle.op.specs.Refusals.{answer_of, half}
 use Rattle.op.specs.declared.Refusal.TheVariants.{Full, Unsound, WrongShape}
 use Rattle.op.specs.declared.Table.TheVariants.{Text}
 use Rattle.code.specs.Bytes.{front}
-use Rattle.code.specs.declared.Focus.{Focus}
 use Rattle.code.specs.declared.HandlerKind.{HandlerKind}
 use Rattle.builder.specs.Answers.{Told, Accepts, Refuses, added_told, answer_told, depth_number, jumped_told, targeted_told}
 use Rattle.builder.specs.Back.{emit_jump_to_of}
@@ -21,14 +22,7 @@ use Rattle.builder.specs.Numbered.{numbered_of}
 use Rattle.builder.specs.Patch.{PatchOutcome, patch_jump_of, patch_outcome}
 use Rattle.builder.specs.Regions.{new_of, region_of}
 use Rattle.builder.specs.State.{Kept, dead_of, kept, unless}
-use Rattle.builder.specs.declared.Added.TheVariants as N
-use Rattle.builder.specs.declared.Answer.{Answer}
-use Rattle.builder.specs.declared.Answer.TheVariants.{Accepted, Refused}
 use Rattle.builder.specs.declared.Builder.{Builder}
-use Rattle.builder.specs.declared.Depth.{Depth}
-use Rattle.builder.specs.declared.Jumped.TheVariants as J
-use Rattle.builder.specs.declared.Location.TheVariants.{Set}
-use Rattle.builder.specs.declared.Targeted.TheVariants as G
 use Rattle.calls.specs.State.{cells_of, core_of, depth_in, focus_in, kind_in, label_in, state_cells, state_in, target_in}
 
 -- how an answer is told
@@ -94,11 +88,11 @@ unfoldable pub held : {A : Type 0} → Option Builder → (none : A) → (Builde
 held None none on = none
 held (Some builder) none on = on builder
 
-unfoldable pub told_depth : {A : Type 0} → Option Depth → (none : A) → (Depth → A) → A
+unfoldable pub told_depth : {A : Type 0} → Option (Option ℕ) → (none : A) → ((Option ℕ) → A) → A
 told_depth None none on = none
 told_depth (Some depth) none on = on depth
 
-unfoldable pub told_focus : {A : Type 0} → Option Focus → (none : A) → (Focus → A) → A
+unfoldable pub told_focus : {A : Type 0} → Option (Option CodeRange) → (none : A) → ((Option CodeRange) → A) → A
 told_focus None none on = none
 told_focus (Some focus) none on = on focus
 
@@ -112,80 +106,80 @@ told_kind (Some kind) none on = on kind
 unfoldable pub new_in : (depth : ℕ) (cells starts : List ℕ) → Kept
 new_in depth cells starts =
     unless (leb state_cells (length cells)) Unsound starts
-    (told_depth (depth_in depth) (kept (Refused WrongShape) starts) (λ (told : Depth). new_of told starts))
+    (told_depth (depth_in depth) (kept (Err WrongShape) starts) (λ (told : Option ℕ). new_of told starts))
 
 -- tfb_set_location
-unfoldable pub set_location_in : (start end flag from to : ℕ) (cells : List ℕ) → Answer
+unfoldable pub set_location_in : (start end flag from to : ℕ) (cells : List ℕ) → Result Builder Refusal
 set_location_in start end flag from to cells =
-    held (state_in cells) (Refused Unsound) (λ (builder : Builder).
-    told_focus (focus_in flag from to) (Refused WrongShape) (λ (focus : Focus).
-    Accepted (with_location builder (Set (record { start = start; end = end }) focus))))
+    held (state_in cells) (Err Unsound) (λ (builder : Builder).
+    told_focus (focus_in flag from to) (Err WrongShape) (λ (focus : Option CodeRange).
+    Ok (with_location builder (Some (record { range = (record { start = start; end = end }); focus = focus })))))
 
 -- tfb_emit (R64)
 unfoldable pub emit_in : (call opcode a b c : ℕ) (names cells code locations : List ℕ) → Outcome
 emit_in call opcode a b c names cells code locations =
-    held (state_in cells) (outcome (Refused Unsound) code locations) (λ (builder : Builder).
+    held (state_in cells) (outcome (Err Unsound) code locations) (λ (builder : Builder).
     numbered_of builder call opcode a b c names code locations)
 
 -- tfb_emit_jump
 unfoldable pub emit_jump_in : (opcode : ℕ) (cells code locations marks : List ℕ) → JumpOutcome
 emit_jump_in opcode cells code locations marks =
-    held (state_in cells) (jump_outcome (J.Refused Unsound) code locations marks) (λ (builder : Builder).
+    held (state_in cells) (jump_outcome (Err Unsound) code locations marks) (λ (builder : Builder).
     emit_jump_of builder opcode code locations marks)
 
 -- tfb_patch_jump
 unfoldable pub patch_jump_in : (label : ℕ) (cells code marks : List ℕ) → PatchOutcome
 patch_jump_in label cells code marks =
-    held (state_in cells) (patch_outcome (Refused Unsound) code marks) (λ (builder : Builder).
+    held (state_in cells) (patch_outcome (Err Unsound) code marks) (λ (builder : Builder).
     patch_jump_of builder (label_in label) code marks)
 
 -- tfb_emit_jump_to
 unfoldable pub emit_jump_to_in : (opcode target : ℕ) (cells code locations marks : List ℕ) → Outcome
 emit_jump_to_in opcode target cells code locations marks =
-    held (state_in cells) (outcome (Refused Unsound) code locations) (λ (builder : Builder).
+    held (state_in cells) (outcome (Err Unsound) code locations) (λ (builder : Builder).
     emit_jump_to_of builder opcode (target_in target) code locations marks)
 
 -- tfb_current_jump_target
 unfoldable pub current_jump_target_in : (cells marks : List ℕ) → TargetOutcome
 current_jump_target_in cells marks =
-    held (state_in cells) (target_outcome (G.Refused Unsound) marks) (λ (builder : Builder).
+    held (state_in cells) (target_outcome (Err Unsound) marks) (λ (builder : Builder).
     target_of builder marks)
 
 -- tfb_register_local_names
 unfoldable pub register_local_names_in : (names cells table : List ℕ) → Kept
 register_local_names_in names cells table =
-    held (state_in cells) (kept (Refused Unsound) table) (λ (builder : Builder).
+    held (state_in cells) (kept (Err Unsound) table) (λ (builder : Builder).
     register_names_of builder names table)
 
 -- tfb_register_local_name
 unfoldable pub register_local_name_in : (slot name : ℕ) (cells table : List ℕ) → Kept
 register_local_name_in slot name cells table =
-    held (state_in cells) (kept (Refused Unsound) table) (λ (builder : Builder).
+    held (state_in cells) (kept (Err Unsound) table) (λ (builder : Builder).
     register_name_of builder slot name table)
 
 -- tfb_add_const
 unfoldable pub add_const_in : (value : ℕ) (cells constants : List ℕ) → AddedKept
 add_const_in value cells constants =
-    held (state_in cells) (added_kept (N.Refused Unsound) constants) (λ (builder : Builder).
+    held (state_in cells) (added_kept (Err Unsound) constants) (λ (builder : Builder).
     add_const_of builder value constants)
 
 -- tfb_add_exception_entry
 unfoldable pub add_exception_in : (start end handler depth count kind : ℕ) (cells exceptions : List ℕ) → Kept
 add_exception_in start end handler depth count kind cells exceptions =
-    held (state_in cells) (kept (Refused Unsound) exceptions) (λ (builder : Builder).
-    told_kind (kind_in kind) (kept (Refused WrongShape) exceptions) (λ (told : HandlerKind).
+    held (state_in cells) (kept (Err Unsound) exceptions) (λ (builder : Builder).
+    told_kind (kind_in kind) (kept (Err WrongShape) exceptions) (λ (told : HandlerKind).
     add_exception_of builder start end handler depth count told exceptions))
 
 -- tfb_new_code_region
 unfoldable pub new_code_region_in : (depth : ℕ) (cells starts : List ℕ) → Kept
 new_code_region_in depth cells starts =
-    held (state_in cells) (kept (Refused Unsound) starts) (λ (builder : Builder).
+    held (state_in cells) (kept (Err Unsound) starts) (λ (builder : Builder).
     region_of builder depth starts)
 
 -- tfb_build
 unfoldable pub build_in : (fill : ℕ) (cells names marks : List ℕ) → Kept
 build_in fill cells names marks =
-    held (state_in cells) (kept (Refused Unsound) names) (λ (builder : Builder).
+    held (state_in cells) (kept (Err Unsound) names) (λ (builder : Builder).
     build_of builder fill names marks)
 
 -- tfb_look: `current_offset`, `stack_depth`, `is_dead`, `current_position`

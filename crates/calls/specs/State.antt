@@ -2,22 +2,18 @@
 -- 5 exceptions, 6 constants, 7 names, 8 starts; 9 whether a location is set, 10 its start, 11 its end; 12 whether it
 -- has a focus, 13 its start, 14 its end; 15 and 16 are neither read nor written. The header says the same in words.
 -- Assumes nothing.
+use Rattle.builder.specs.declared.Location.{Location}
+use Rattle.code.specs.declared.CodeRange.{CodeRange}
 use Rattle.code.specs.declared.HandlerKind.{HandlerKind}
-use Rattle.code.specs.declared.Focus.{Focus}
-use Rattle.builder.specs.declared.Depth.{Depth}
 use Rattle.std.specs.Prelude.{cond, List, [], ◌∷◌, ℕ, leb, ltb, eqb, length, get_or, Some, None, Option}
-use Rattle.code.specs.declared.Focus.TheVariants.{Absent, Present}
 use Rattle.code.specs.declared.HandlerKind.TheVariants.{Consuming, Cleanup}
 use Rattle.builder.specs.Answers.{dead_depth, dead_row, depth_number}
 use Rattle.builder.specs.declared.Builder.{Builder}
 use Rattle.builder.specs.declared.Core.{Core}
-use Rattle.builder.specs.declared.Depth.TheVariants.{Dead, Live}
 use Rattle.builder.specs.declared.JumpLabel.{JumpLabel}
 use Rattle.builder.specs.declared.JumpLabel.TheVariants as L
 use Rattle.builder.specs.declared.JumpTarget.{JumpTarget}
 use Rattle.builder.specs.declared.JumpTarget.TheVariants as T
-use Rattle.builder.specs.declared.Location.{Location}
-use Rattle.builder.specs.declared.Location.TheVariants.{Unset, Set}
 use Rattle.calls.specs.declared.Place.{Place}
 
 abbrev pub state_cells : ℕ
@@ -29,10 +25,10 @@ offset_max = 4294967295
 
 -- reading
 
-abbrev pub depth_in : (number : ℕ) → Option Depth
+abbrev pub depth_in : (number : ℕ) → Option (Option ℕ)
 depth_in number =
-    cond (ltb number dead_depth) (Some (Live number))
-    (cond (eqb number dead_depth) (Some Dead) None)
+    cond (ltb number dead_depth) (Some (Some number))
+    (cond (eqb number dead_depth) (Some None) None)
 
 abbrev pub label_in : (number : ℕ) → JumpLabel
 label_in number = cond (eqb number dead_row) L.Dead (L.Row number)
@@ -44,28 +40,28 @@ abbrev pub kind_in : (number : ℕ) → Option HandlerKind
 kind_in number = cond (eqb number 0) (Some Consuming) (cond (eqb number 1) (Some Cleanup) None)
 
 -- of a focus that is absent the other cells are not read
-abbrev pub focus_in : (flag start end : ℕ) → Option Focus
+abbrev pub focus_in : (flag start end : ℕ) → Option (Option CodeRange)
 focus_in flag start end =
-    cond (eqb flag 0) (Some Absent)
+    cond (eqb flag 0) (Some None)
     (cond (eqb flag 1)
     (cond (leb start offset_max)
-    (cond (leb end offset_max) (Some (Present (record { start = start; end = end }))) None)
+    (cond (leb end offset_max) (Some (Some (record { start = start; end = end }))) None)
     None)
     None)
 
-abbrev pub set_in : (start end : ℕ) → Option Focus → Option Location
+abbrev pub set_in : (start end : ℕ) → Option (Option CodeRange) → Option (Option Location)
 set_in start end None = None
-set_in start end (Some focus) = Some (Set (record { start = start; end = end }) focus)
+set_in start end (Some focus) = Some (Some (record { range = (record { start = start; end = end }); focus = focus }))
 
 -- of a location that is not set the other cells are not read
-abbrev pub location_in : (set start end : ℕ) (focus : Option Focus) → Option Location
+abbrev pub location_in : (set start end : ℕ) (focus : Option (Option CodeRange)) → Option (Option Location)
 location_in set start end focus =
-    cond (eqb set 0) (Some Unset)
+    cond (eqb set 0) (Some None)
     (cond (eqb set 1)
     (cond (leb start offset_max) (cond (leb end offset_max) (set_in start end focus) None) None)
     None)
 
-abbrev pub state_with : Option Depth → Option Location → (cells : List ℕ) → Option Builder
+abbrev pub state_with : Option (Option ℕ) → Option (Option Location) → (cells : List ℕ) → Option Builder
 state_with None location cells = None
 state_with (Some depth) None cells = None
 state_with (Some depth) (Some location) cells = Some (record {
@@ -92,17 +88,17 @@ state_in cells =
 -- writing
 
 -- a location's cells; what is not there is 0
-abbrev pub place_of : Location → Place
-place_of Unset = record { set = 0; start = 0; end = 0; focus = 0; from = 0; to = 0 }
-place_of (Set range Absent) = record {
+abbrev pub place_of : Option Location → Place
+place_of None = record { set = 0; start = 0; end = 0; focus = 0; from = 0; to = 0 }
+place_of (Some set) = record {
   set = 1;
-  start = range.start;
-  end = range.end;
+  start = set.range.start;
+  end = set.range.end;
   focus = 0;
   from = 0;
   to = 0;
 }
-place_of (Set range (Present focus)) = record {
+place_of (Set range (Some focus)) = record {
   set = 1;
   start = range.start;
   end = range.end;

@@ -11,7 +11,7 @@ ghost use Rattle.calls.specs.Exports.{emit_in, emit_jump_in, emit_jump_to_in, lo
 ghost use Rattle.calls.specs.Exports.{patch_jump_in, register_local_name_in, register_local_names_in, set_location_in};
 ghost use Rattle.std.specs.Prelude.{◌≡◌};
 
-use builder::{Added, Builder, Jumped, Targeted};
+use builder::{Builder};
 use code::CodeRange;
 use op::{Refusal, Table, refusals};
 
@@ -127,12 +127,12 @@ pub fn tfb_emit_jump(
         return refusals::answer(Refusal::Unsound);
     };
     match before.emit_jump(opcode, code, locations, marks) {
-        Jumped::Made(after, label) => writing::accept_core(
+        Ok((after, label)) => writing::accept_core(
             after,
             writing::label_number(label),
             state,
         ),
-        Jumped::Refused(refusal) => refusals::answer(refusal),
+        Err(refusal) => refusals::answer(refusal),
     }
 }
 
@@ -184,12 +184,12 @@ pub fn tfb_current_jump_target(state: &mut [u64], marks: &mut [u32]) -> u64
         return refusals::answer(Refusal::Unsound);
     };
     match before.current_jump_target(marks) {
-        Targeted::Made(after, target) => writing::accept_core(
+        Ok((after, target)) => writing::accept_core(
             after,
             writing::target_number(target),
             state,
         ),
-        Targeted::Refused(refusal) => refusals::answer(refusal),
+        Err(refusal) => refusals::answer(refusal),
     }
 }
 
@@ -227,8 +227,8 @@ pub fn tfb_add_const(value: u64, state: &mut [u64], constants: &mut [u64]) -> u6
         return refusals::answer(Refusal::Unsound);
     };
     match before.add_const(value, constants) {
-        Added::Made(after, index) => writing::accept(after, index as u64, state),
-        Added::Refused(refusal) => refusals::answer(refusal),
+        Ok((after, index)) => writing::accept(after, index as u64, state),
+        Err(refusal) => refusals::answer(refusal),
     }
 }
 

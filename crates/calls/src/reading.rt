@@ -4,17 +4,17 @@ ghost use Rattle.calls.specs.Inner.{range_in};
 ghost use Rattle.std.specs.Prelude.{◌≡◌, ◌≤◌, length, IfSome};
 
 use crate::{DEAD_DEPTH, DEAD_ROW, STATE_CELLS};
-use builder::{Builder, Core, Depth, JumpLabel, JumpTarget, Location};
-use code::{CodeRange, Focus, HandlerKind};
+use builder::{Builder, Core, JumpLabel, JumpTarget, Location};
+use code::{CodeRange, HandlerKind};
 
-pub fn depth_in(number: u64) -> Option<Depth>
+pub fn depth_in(number: u64) -> Option<Option<u16>>
     ensures { result ≡ depth_in number }
 {
     if number == DEAD_DEPTH {
-        return Some(Depth::Dead);
+        return Some(None);
     }
     let depth = u16::try_from(number).ok()?;
-    Some(Depth::Live(depth))
+    Some(Some(depth))
 }
 
 // A range, if both offsets fit a source.
@@ -26,27 +26,27 @@ fn range_in(start: u64, end: u64) -> Option<CodeRange>
     Some(CodeRange { start, end })
 }
 
-pub fn focus_in(flag: u64, start: u64, end: u64) -> Option<Focus>
+pub fn focus_in(flag: u64, start: u64, end: u64) -> Option<Option<CodeRange>>
     ensures { result ≡ focus_in flag start end }
 {
     match flag {
-        0 => Some(Focus::Absent),
+        0 => Some(None),
         1 => {
             let range = range_in(start, end)?;
-            Some(Focus::Present(range))
+            Some(Some(range))
         }
         _ => None,
     }
 }
 
-fn location_in(set: u64, start: u64, end: u64, focus: Option<Focus>) -> Option<Location>
+fn location_in(set: u64, start: u64, end: u64, focus: Option<Option<CodeRange>>) -> Option<Option<Location>>
     ensures { result ≡ location_in set start end focus }
 {
     match set {
-        0 => Some(Location::Unset),
+        0 => Some(None),
         1 => {
             let range = range_in(start, end)?;
-            Some(Location::Set(range, focus?))
+            Some(Some(Location { range, focus: focus? }))
         }
         _ => None,
     }

@@ -6,18 +6,17 @@ ghost use Rattle.calls.specs.Exports.{Leaves, LeavesCore, look_cells, look_of};
 ghost use Rattle.calls.specs.State.{place_of, state_cells};
 
 use crate::{DEAD_DEPTH, DEAD_ROW, Place};
-use builder::{Answer, Builder, Depth, JumpLabel, JumpTarget, Location};
-use code::Focus;
+use builder::{Builder, JumpLabel, JumpTarget, Location};
 use op::refusals;
 
 // The numbers of three types. They are crate `builder`'s, as `From` is std's, so a crate above both has functions for it; one
 // for the two rows would need a trait, which is no plainer.
-pub fn depth_number(depth: Depth) -> u64
+pub fn depth_number(depth: Option<u16>) -> u64
     ensures { result ≡ depth_number depth }
 {
     match depth {
-        Depth::Dead => DEAD_DEPTH,
-        Depth::Live(d) => d as u64,
+        None => DEAD_DEPTH,
+        Some(d) => d as u64,
     }
 }
 
@@ -39,19 +38,19 @@ pub fn target_number(target: JumpTarget) -> u64
     }
 }
 
-impl From<Location> for Place {
+impl From<Option<Location>> for Place {
     ghost from_gives = { λ location place. place ≡ place_of location };
 
-    fn from(location: Location) -> Place {
+    fn from(location: Option<Location>) -> Place {
         match location {
-            Location::Unset => Place::default(),
-            Location::Set(range, Focus::Absent) => Place {
+            None => Place::default(),
+            Some(Location { range, focus: None }) => Place {
                 set: 1,
                 start: range.start as u64,
                 end: range.end as u64,
                 ..Place::default()
             },
-            Location::Set(range, Focus::Present(focus)) => Place {
+            Some(Location { range, focus: Some(focus) }) => Place {
                 set: 1,
                 start: range.start as u64,
                 end: range.end as u64,
@@ -107,24 +106,24 @@ pub fn accept(after: Builder, value: u64, cells: &mut [u64]) -> u64
 }
 
 // What an emitting call leaves, which changes the core alone.
-pub fn leave_core(answer: Answer, cells: &mut [u64]) -> u64
+pub fn leave_core(answer: Result<Builder, Refusal>, cells: &mut [u64]) -> u64
     requires { state_cells ≤ length cells.old }
     ensures { LeavesCore (answer_told answer) cells.old result cells.new }
 {
     match answer {
-        Answer::Accepted(after) => accept_core(after, 0, cells),
-        Answer::Refused(refusal) => refusals::answer(refusal),
+        Ok(after) => accept_core(after, 0, cells),
+        Err(refusal) => refusals::answer(refusal),
     }
 }
 
 // What any other call leaves.
-pub fn leave(answer: Answer, cells: &mut [u64]) -> u64
+pub fn leave(answer: Result<Builder, Refusal>, cells: &mut [u64]) -> u64
     requires { state_cells ≤ length cells.old }
     ensures { Leaves (answer_told answer) cells.old result cells.new }
 {
     match answer {
-        Answer::Accepted(after) => accept(after, 0, cells),
-        Answer::Refused(refusal) => refusals::answer(refusal),
+        Ok(after) => accept(after, 0, cells),
+        Err(refusal) => refusals::answer(refusal),
     }
 }
 

@@ -1,7 +1,9 @@
 -- A certificate that antt computes: cells that pass a test are the smallest assignment, and two depths that two paths
 -- lead to at one offset leave none. The examples rest on it.
 -- Assumes nothing.
-use Rattle.std.specs.Prelude.{Ok, Err, Result}
+use Rattle.code.specs.Flow.{Flowing}
+use Rattle.op.specs.declared.Effect.{Effect}
+use Rattle.std.specs.Prelude.{Ok, Err, Result, Some, None}
 use mathlib.Core.Path.{◌≡◌, refl, sym, ap, subst, ◌∙◌}
 use mathlib.Core.Bool.{Bool, true, false, cond, ◌&&◌}
 use mathlib.Core.List.{List, ◌++◌}
@@ -13,15 +15,10 @@ use lib.Dec.{T, eqb, leb, eqb→eq, leb→le}
 use lib.ListN.{length, get_or, drop, take, replicate, get_or-eq_default}
 use borrow.Author.Tests.{le-leb}
 use Rattle.base.proofs.Bools.{and_left, and_right, clash}
-use Rattle.op.specs.declared.After.{After}
-use Rattle.op.specs.declared.After.TheVariants as A
 use Rattle.op.specs.declared.Refusal.TheVariants.{NoDepths}
 use Rattle.base.proofs.Keys.{every_from, in_range}
 use Rattle.op.specs.declared.Refusal.{Refusal}
-use Rattle.code.specs.declared.Change.{Change}
 use Rattle.code.specs.declared.Flow.{Flow}
-use Rattle.code.specs.declared.Flowing.{Flowing}
-use Rattle.code.specs.declared.Flowing.TheVariants as F
 use Rattle.code.specs.declared.Goal.{Goal}
 use Rattle.code.specs.declared.Goal.TheVariants.{Nowhere, To, Outside}
 use Rattle.code.specs.Flow.{flow_of}
@@ -41,34 +38,34 @@ use Rattle.checker.proofs.Reaching.{ends_whole}
 
 -- what an instruction with a depth asks of the cells
 
-abbrev pub holds : List ℕ → ℕ → After → Bool
-holds c q (A.Depth e) = eqb (cell c q) e
-holds c q (A.Refused r) = false
+abbrev pub holds : List ℕ → ℕ → Result ℕ Refusal → Bool
+holds c q (Ok e) = eqb (cell c q) e
+holds c q (Err r) = false
 
-abbrev pub is_depth : After → Bool
-is_depth (A.Depth e) = true
-is_depth (A.Refused r) = false
+abbrev pub is_depth : Result ℕ Refusal → Bool
+is_depth (Ok e) = true
+is_depth (Err r) = false
 
-abbrev pub jump_ok : List ℕ → After → Goal → Bool
+abbrev pub jump_ok : List ℕ → Result ℕ Refusal → Goal → Bool
 jump_ok c x Nowhere = true
 jump_ok c x (To t) = holds c t x
 jump_ok c x Outside = false
 
 abbrev pub kept_ok : List ℕ → ℕ → ℕ → Flowing → Bool
-kept_ok c o d (F.Op f) = cond f.falls (holds c (o + f.size) (lead d f.net)) (is_depth (lead d f.net))
+kept_ok c o d (Ok (Some f)) = cond f.falls (holds c (o + f.size) (lead d f.net)) (is_depth (lead d f.net))
     && jump_ok c (lead d f.taken) f.goal
-kept_ok c o d F.End = true
-kept_ok c o d (F.Refused q) = true
+kept_ok c o d (Ok None) = true
+kept_ok c o d (Err q) = true
 
-module _ (c : List ℕ) (d : ℕ) (change : Change) where
-  holds_in : (q : ℕ) (x : After) → lead d change ≡ x → T (holds c q x)
+module _ (c : List ℕ) (d : ℕ) (change : Effect) where
+  holds_in : (q : ℕ) (x : Result ℕ Refusal) → lead d change ≡ x → T (holds c q x)
       → (e : ℕ) × (Leads d change e × (depth_in c q ≡ some e))
-  holds_in q (A.Depth e) h t = (e, (h, depth_in_lem c q e (eqb→eq (cell c q) e t) (leads_is d change e h).1))
-  holds_in q (A.Refused r) h t = absurd t
+  holds_in q (Ok e) h t = (e, (h, depth_in_lem c q e (eqb→eq (cell c q) e t) (leads_is d change e h).1))
+  holds_in q (Err r) h t = absurd t
 
-  range_in : (x : After) → lead d change ≡ x → T (is_depth x) → (e : ℕ) × Leads d change e
-  range_in (A.Depth e) h t = (e, h)
-  range_in (A.Refused r) h t = absurd t
+  range_in : (x : Result ℕ Refusal) → lead d change ≡ x → T (is_depth x) → (e : ℕ) × Leads d change e
+  range_in (Ok e) h t = (e, h)
+  range_in (Err r) h t = absurd t
 
 module _ (c : List ℕ) (o d : ℕ) (f : Flow) where
   falls_kept : (b : Bool) → f.falls ≡ b → T
@@ -85,7 +82,7 @@ module _ (c : List ℕ) (o d : ℕ) (f : Flow) where
   jumps_kept (To q) g t n = let i = holds_in c d f.taken q (lead d f.taken) refl t in record { target = q; depth = i.0; goes = g; leads = i.1.0; has = i.1.1 }
   jumps_kept Outside g t n = absurd t
 
-  op_kept : T (kept_ok c o d (F.Op f)) → Kept (depth_in c) f o d
+  op_kept : T (kept_ok c o d (Ok (Some f))) → Kept (depth_in c) f o d
   op_kept t =
       let a = cond f.falls (holds c (o + f.size) (lead d f.net)) (is_depth (lead d f.net)) in
       let b = jump_ok c (lead d f.taken) f.goal in

@@ -1,5 +1,6 @@
 -- What the starts, the visit of one offset and the loop over the list show.
 -- Assumes nothing.
+use Rattle.code.specs.Flow.{Flowing}
 use Rattle.std.specs.Prelude.{Option, None, Some, Result, Ok, Err}
 use mathlib.Core.Path.{◌≡◌, refl, sym, ap, subst, ◌∙◌}
 use mathlib.Core.List.{List}
@@ -16,8 +17,6 @@ use Rattle.base.proofs.Bools.{clash}
 use Rattle.base.proofs.Lists.{get_d_any}
 use Rattle.op.specs.declared.Refusal.{Refusal}
 use Rattle.code.specs.declared.Flow.{Flow}
-use Rattle.code.specs.declared.Flowing.{Flowing}
-use Rattle.code.specs.declared.Flowing.TheVariants as F
 use Rattle.code.specs.Flow.{flow_of}
 use Rattle.code.specs.Depths.{Stands, Place, Kept, Derived, start}
 use Rattle.code.proofs.Places.{stands_one}
@@ -50,13 +49,13 @@ pub deep_inside : (c : List ℕ) (at : ℕ) → cell c at ≤ 65535 → at < len
 deep_inside c at deep = cell_in c at (λ z. omega arith)
 
 module _ {last : ℕ} {s : List ℕ} {at : ℕ} {x : Flowing} (is : x ≡ flow_of last at (drop at s)) where
-  pub flow_stands : {f : Flow} → x ≡ F.Op f → Stands last s at f
+  pub flow_stands : {f : Flow} → x ≡ Ok (Some f) → Stands last s at f
   flow_stands e = record { is = sym is ∙ e }
 
-  pub flow_end : x ≡ F.End → (f : Flow) → Stands last s at f → ⊥
+  pub flow_end : x ≡ (Ok None) → (f : Flow) → Stands last s at f → ⊥
   flow_end e f h = let i = h.is in clash cc
 
-  pub flow_fault : {q : Refusal} → x ≡ F.Refused q → (f : Flow) → Stands last s at f → ⊥
+  pub flow_fault : {q : Refusal} → x ≡ Err q → (f : Flow) → Stands last s at f → ⊥
   flow_fault {q} e f h = let i = h.is in clash cc
 
 module _ {last : ℕ} {s c w : List ℕ} {top at : ℕ} (R : Ready c w top) (deep : cell c at ≤ 65535) where

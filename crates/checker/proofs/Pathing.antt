@@ -1,6 +1,9 @@
 -- Paths and derived depths: along a path the depths are the assignment's, and each derived depth has its path. So the
 -- greatest depth is enough, and some path needs it.
 -- Assumes nothing.
+use Rattle.code.specs.Decode.{instr}
+use Rattle.op.specs.declared.Effect.{Effect}
+use Rattle.std.specs.Prelude.{Ok, Err, Some, None, Result}
 use mathlib.Core.Path.{◌≡◌, refl, sym, ap, subst, ◌∙◌}
 use mathlib.Core.Bool.{Bool, true, false, cond, not}
 use mathlib.Core.List.Memᴰ.{head as mhead}
@@ -18,9 +21,6 @@ use borrow.Author.Tests.{ltb-true, ltb-false, le-ltb, leb-true}
 use Rattle.base.proofs.Bools.{clash, not_true}
 use Rattle.op.specs.Effects.{effect_of, taken_of, dead_maker, net_of}
 use Rattle.op.specs.Shapes.{shape_number, operand_shape}
-use Rattle.op.specs.declared.Effect.{Effect}
-use Rattle.op.specs.declared.Effect.TheVariants as E
-use Rattle.op.specs.declared.NetEffect.TheVariants as N
 use Rattle.op.specs.declared.Operand.{Operand}
 use Rattle.op.specs.declared.Operand.TheVariants as O
 use Rattle.op.specs.declared.Refusal.{Refusal}
@@ -30,7 +30,6 @@ use Rattle.code.specs.Flow.{goal_by, goal_of, change_of, flow_by, flowing_by, fl
 use Rattle.code.specs.Reading.{Spot, spot_at, places_in}
 use Rattle.code.specs.declared.Flow.{Flow}
 use Rattle.code.specs.declared.Goal.TheVariants.{Nowhere, To, Outside}
-use Rattle.code.specs.declared.Step.TheVariants.{Instr, End, Refused}
 use Rattle.code.proofs.Assigning.{leads_is, derived_in}
 use Rattle.code.proofs.Decoding.{decoded}
 use Rattle.code.proofs.Instructions.{read_from, read_ind}
@@ -61,11 +60,11 @@ summed up down d e h = go (ltb up down) refl
         rw z refl
 
 -- an effect carries the depth where its change leads
-carried : (x : Effect) (z : ℤ) (d e : ℕ) → net_of x ≡ N.Net z → Leads d (change_of x) e → pos d +ℤ z ≡ pos e
-carried (E.By up down) z d e n l =
-    let i : sub_ℕ up down ≡ z = cc in
-    rw (← i) (summed up down d e (leads_is d _ e l).0)
-carried (E.Refused r) z d e n l = clash cc
+carried : (x : Result Effect Refusal) (z : ℤ) (d e : ℕ) → net_of x ≡ Ok z → Leads d (change_of x) e → pos d +ℤ z ≡ pos e
+carried (Ok effect) z d e n l =
+    let i : sub_ℕ effect.up effect.down ≡ z = cc in
+    rw (← i) (summed effect.up effect.down d e (leads_is d _ e l).0)
+carried (Err r) z d e n l = clash cc
 
 -- a target, as a whole number
 goal_sum : (next end t : ℕ) (z : ℤ) → goal_by next end z ≡ To t → pos t ≡ pos next +ℤ z
@@ -102,33 +101,33 @@ goal_some next end (negsuc n) e = go (leb (suc n) next) e
 module _ (last : ℕ) (s : List ℕ) where
   -- a step of reading gives each instruction that is met
   met_step : (at : ℕ) (x : Spot) → Mem x (read_from last s at).spots
-      → decode last x.offset (drop x.offset s) ≡ Instr x.what.opcode x.what.operand x.size
+      → decode last x.offset (drop x.offset s) ≡ Ok (Some (instr x.what.opcode x.what.operand x.size))
   met_step = read_ind last s (λ at read. (x : Spot) → Mem x read.spots
-      → decode last x.offset (drop x.offset s) ≡ Instr x.what.opcode x.what.operand x.size)
+      → decode last x.offset (drop x.offset s) ≡ Ok (Some (instr x.what.opcode x.what.operand x.size)))
       (λ at k o z e h x m. ⊎_elim (λ i. rw i e) (h x) (Memᴰ.cases_cons m))
       (λ at e x m. absurd (Memᴰ.not-nil m)) (λ at r e x m. absurd (Memᴰ.not-nil m))
 
   -- and at a place what a step gives is met
   step_met : (at o k : ℕ) (p : Operand) (z : ℕ) → Mem o (places_in (read_from last s at))
-      → decode last o (drop o s) ≡ Instr k p z → Mem (spot_at last o (drop o s) k p z) (read_from last s at).spots
+      → decode last o (drop o s) ≡ Ok (Some (instr k p z)) → Mem (spot_at last o (drop o s) k p z) (read_from last s at).spots
   step_met = read_ind last s (λ at read. (o k : ℕ) (p : Operand) (z : ℕ) → Mem o (places_in read)
-      → decode last o (drop o s) ≡ Instr k p z → Mem (spot_at last o (drop o s) k p z) read.spots)
+      → decode last o (drop o s) ≡ Ok (Some (instr k p z)) → Mem (spot_at last o (drop o s) k p z) read.spots)
       (λ at k p z e h o k' p' z' m e'. ⊎_elim (λ i. mhead (same_spot o at k k' p p' z z' i e e'))
       (λ j. mtail (h o k' p' z' j e')) (Memᴰ.cases_cons m))
       (λ at e o k p z m e'. absurd (at_end_lem o at k p z (Memᴰ.eq_of_singleton m) e e'))
       (λ at r e o k p z m e'. absurd (at_fault o at k p z r (Memᴰ.eq_of_singleton m) e e'))
     where
-      same_spot : (o at k k' : ℕ) (p p' : Operand) (z z' : ℕ) → o ≡ at → decode last at (drop at s) ≡ Instr k p z
-          → decode last o (drop o s) ≡ Instr k' p' z'
+      same_spot : (o at k k' : ℕ) (p p' : Operand) (z z' : ℕ) → o ≡ at → decode last at (drop at s) ≡ Ok (Some (instr k p z))
+          → decode last o (drop o s) ≡ Ok (Some (instr k' p' z'))
           → spot_at last o (drop o s) k' p' z' ≡ spot_at last at (drop at s) k p z
       same_spot o at k k' p p' z z' i e e' = cc
 
-      at_end_lem : (o at k : ℕ) (p : Operand) (z : ℕ) → o ≡ at → decode last at (drop at s) ≡ End
-          → decode last o (drop o s) ≡ Instr k p z → ⊥
+      at_end_lem : (o at k : ℕ) (p : Operand) (z : ℕ) → o ≡ at → decode last at (drop at s) ≡ (Ok None)
+          → decode last o (drop o s) ≡ Ok (Some (instr k p z)) → ⊥
       at_end_lem o at k p z i e e' = clash cc
 
-      at_fault : (o at k : ℕ) (p : Operand) (z : ℕ) (r : Refusal) → o ≡ at → decode last at (drop at s) ≡ Refused r
-          → decode last o (drop o s) ≡ Instr k p z → ⊥
+      at_fault : (o at k : ℕ) (p : Operand) (z : ℕ) (r : Refusal) → o ≡ at → decode last at (drop at s) ≡ Err r
+          → decode last o (drop o s) ≡ Ok (Some (instr k p z)) → ⊥
       at_fault o at k p z r i e e' = clash cc
 
   -- how an instruction that is met moves on
@@ -198,7 +197,7 @@ module _ {last : ℕ} {s st : List ℕ} {a : ℕ → Option ℕ} (A : Assigns la
   -- a derived depth has a path
 
   -- the instruction at a place
-  abbrev place_met : {o d : ℕ} (k : ℕ) (p : Operand) (z : ℕ) → a o ≡ some d → decode last o (drop o s) ≡ Instr k p z
+  abbrev place_met : {o d : ℕ} (k : ℕ) (p : Operand) (z : ℕ) → a o ≡ some d → decode last o (drop o s) ≡ Ok (Some (instr k p z))
       → Met last s o
   place_met {o} {d} k p z h e = record {
     spot = spot_at last o (drop o s) k p z;

@@ -1,6 +1,10 @@
 -- What antt can compute of paths and of the reading of the code: depths that some steps from the starts lead to,
 -- offsets that reading comes to. The certificate of an assignment rests on it.
 -- Assumes nothing.
+use Rattle.code.specs.Flow.{Flowing}
+use Rattle.op.specs.Effects.{by}
+use Rattle.op.specs.declared.Effect.{Effect}
+use Rattle.std.specs.Prelude.{Ok, Err, Some, None, Result}
 use mathlib.Core.Path.{◌≡◌, refl, sym, ap, subst, ◌∙◌}
 use mathlib.Core.Bool.{Bool, true, false, cond, ◌||◌}
 use mathlib.Core.List.Memᴰ
@@ -13,14 +17,8 @@ use lib.Dec.{T, eqb, eqb→eq}
 use lib.ListN.{drop}
 use Rattle.base.specs.Tests.{is_in}
 use Rattle.op.specs.Depths.{landing, low_falling}
-use Rattle.op.specs.declared.After.{After}
-use Rattle.op.specs.declared.After.TheVariants as A
-use Rattle.op.specs.declared.Effect.TheVariants as E
 use Rattle.op.specs.declared.Refusal.{Refusal}
-use Rattle.code.specs.declared.Change.{Change}
 use Rattle.code.specs.declared.Flow.{Flow}
-use Rattle.code.specs.declared.Flowing.{Flowing}
-use Rattle.code.specs.declared.Flowing.TheVariants as F
 use Rattle.code.specs.declared.Goal.{Goal}
 use Rattle.code.specs.declared.Goal.TheVariants.{Nowhere, To, Outside}
 use Rattle.code.specs.Flow.{flow_of}
@@ -34,22 +32,22 @@ use Rattle.checker.specs.Inner.{NoFault}
 pub data Given : Type 0 where
   given : ℕ → ℕ → Given
 
-abbrev pub lead : ℕ → Change → After
-lead d c = landing low_falling d (E.By c.up c.down)
+abbrev pub lead : ℕ → Effect → Result ℕ Refusal
+lead d c = landing low_falling d (Ok (by c.up c.down))
 
-abbrev pub gives : ℕ → After → List Given
-gives q (A.Depth e) = given q e ∷ []
-gives q (A.Refused r) = []
+abbrev pub gives : ℕ → Result ℕ Refusal → List Given
+gives q (Ok e) = given q e ∷ []
+gives q (Err r) = []
 
-abbrev pub leaps : ℕ → Change → Goal → List Given
+abbrev pub leaps : ℕ → Effect → Goal → List Given
 leaps d c Nowhere = []
 leaps d c (To t) = gives t (lead d c)
 leaps d c Outside = []
 
 abbrev pub onward : ℕ → ℕ → Flowing → List Given
-onward o d (F.Op f) = cond f.falls (gives (o + f.size) (lead d f.net)) [] ++ leaps d f.taken f.goal
-onward o d F.End = []
-onward o d (F.Refused q) = []
+onward o d (Ok (Some f)) = cond f.falls (gives (o + f.size) (lead d f.net)) [] ++ leaps d f.taken f.goal
+onward o d (Ok None) = []
+onward o d (Err q) = []
 
 abbrev pub steps : ℕ → List ℕ → List Given → List Given
 steps last s [] = []
@@ -99,10 +97,10 @@ begins_in (x ∷ (y ∷ st)) o d m = ⊎_elim here (λ j. begins_more x y st o d
         let b : y ≡ d = cc in
         record { row = 0; inside = omega arith; offset = a; depth = b }
 
-gives_in : (t : ℕ) (x : After) (q e : ℕ) → Memᴰ (given q e) (gives t x) → (t ≡ q) × (x ≡ A.Depth e)
-gives_in t (A.Depth g) q e m = ⊎_elim (λ z. (let a : t ≡ q = cc in let b : A.Depth g ≡ A.Depth e = cc in (a, b)))
+gives_in : (t : ℕ) (x : Result ℕ Refusal) (q e : ℕ) → Memᴰ (given q e) (gives t x) → (t ≡ q) × (x ≡ Ok e)
+gives_in t (Ok g) q e m = ⊎_elim (λ z. (let a : t ≡ q = cc in let b : Ok g ≡ Ok e = cc in (a, b)))
     (λ j. absurd (Memᴰ.not-nil j)) (Memᴰ.cases_cons m)
-gives_in t (A.Refused r) q e m = absurd (Memᴰ.not-nil m)
+gives_in t (Err r) q e m = absurd (Memᴰ.not-nil m)
 
 module _ {last : ℕ} (s st : List ℕ) where
   module _ (o d : ℕ) (D : Derived last s st o d) (f : Flow) (h : Stands last s o f) (q e : ℕ) where
@@ -118,12 +116,12 @@ module _ {last : ℕ} (s st : List ℕ) where
 
   onward_derived : (o d : ℕ) → Derived last s st o d → (x : Flowing) → flow_of last o (drop o s) ≡ x → (q e : ℕ)
       → Memᴰ (given q e) (onward o d x) → Derived last s st q e
-  onward_derived o d D (F.Op f) h q e m =
+  onward_derived o d D (Ok (Some f)) h q e m =
       let w : Stands last s o f = record { is = h } in
       ⊎_elim (falls_derived o d D f w q e f.falls refl) (leaps_derived o d D f w q e f.goal refl)
       (Memᴰ.append_cases (cond f.falls (gives (o + f.size) (lead d f.net)) []) m)
-  onward_derived o d D F.End h q e m = absurd (Memᴰ.not-nil m)
-  onward_derived o d D (F.Refused r) h q e m = absurd (Memᴰ.not-nil m)
+  onward_derived o d D (Ok None) h q e m = absurd (Memᴰ.not-nil m)
+  onward_derived o d D (Err r) h q e m = absurd (Memᴰ.not-nil m)
 
   steps_derived : (xs : List Given) → ((o d : ℕ) → Memᴰ (given o d) xs → Derived last s st o d) → (q e : ℕ)
       → Memᴰ (given q e) (steps last s xs) → Derived last s st q e

@@ -1,5 +1,8 @@
 -- A reason leaves no assignment, and a fault of the code is none.
 -- Assumes nothing.
+use Rattle.code.specs.Decode.{instr}
+use Rattle.op.specs.declared.Shape.{Shape}
+use Rattle.std.specs.Prelude.{Ok, Err, Some, Result}
 use mathlib.Core.Path.{◌≡◌, ap, ◌∙◌}
 use mathlib.Core.Bool.{Bool, true, false, cond}
 use mathlib.Core.List.{List, [], ◌∷◌}
@@ -12,9 +15,6 @@ use Rattle.base.proofs.Bools.{clash}
 use Rattle.op.specs.declared.Operand.{Operand}
 use Rattle.op.specs.declared.Refusal.{Refusal}
 use Rattle.op.specs.declared.Refusal.TheVariants.{NoDepths, UnknownOpcodeAt, CutShort}
-use Rattle.op.specs.declared.Shaped.{Shaped}
-use Rattle.op.specs.declared.Shaped.TheVariants as P
-use Rattle.code.specs.declared.Step.TheVariants.{Instr, Refused}
 use Rattle.code.specs.Decode.{size_by_names, whole, step_in, shape_up_to, decode}
 use Rattle.code.specs.Depths.{Impossible, Faulty}
 use Rattle.code.proofs.Assigning.{derived_in, clash_depths, clash_net}
@@ -43,16 +43,16 @@ abbrev pub OfReading : Refusal → Type 0
 OfReading q = (o : ℕ) × ((q ≡ UnknownOpcodeAt o) ⊎ (q ≡ CutShort o))
 
 step_is : (at k : ℕ) (o : Operand) (z : ℕ) (q : Refusal) (b : Bool)
-    → cond b (Instr k o z) (Refused (CutShort at)) ≡ Refused q → OfReading q
+    → cond b (Ok (Some (instr k o z))) (Err (CutShort at)) ≡ Err q → OfReading q
 step_is at k o z q true e = clash cc
 step_is at k o z q false e = (at, inr cc)
 
-whole_is : (at : ℕ) (u : List ℕ) (q : Refusal) (x : Shaped) → whole at x u ≡ Refused q → OfReading q
+whole_is : (at : ℕ) (u : List ℕ) (q : Refusal) (x : Result Shape Refusal) → whole at x u ≡ Err q → OfReading q
 unfolding step_in
-whole_is at u q (P.Is s) e = step_is at _ _ _ q (leb (size_by_names s u) (length u)) e
-whole_is at u q (P.Refused r) e = (at, inl cc)
+whole_is at u q (Ok s) e = step_is at _ _ _ q (leb (size_by_names s u) (length u)) e
+whole_is at u q (Err r) e = (at, inl cc)
 
-decode_is : (last at : ℕ) (u : List ℕ) (q : Refusal) → decode last at u ≡ Refused q → OfReading q
+decode_is : (last at : ℕ) (u : List ℕ) (q : Refusal) → decode last at u ≡ Err q → OfReading q
 unfolding decode
 decode_is last at [] q e = clash cc
 decode_is last at (k ∷ u) q e = whole_is at (k ∷ u) q (shape_up_to last k) e
@@ -63,7 +63,7 @@ fault_is {last} {s} {q} A = by_reading 0 A.is
     by_reading : (at : ℕ) → (read_from last s at).fault ≡ some q → OfReading q
     by_reading = read_ind last s (λ at read. read.fault ≡ some q → OfReading q) (λ at k o z e later h. later h)
         (λ at e h. clash cc)
-        (λ at r e h. decode_is last at (drop at s) q (let i : r ≡ q = cc in e ∙ ap Refused i))
+        (λ at r e h. decode_is last at (drop at s) q (let i : r ≡ q = cc in e ∙ ap Err i))
 
 pub fault_not : {last : ℕ} {s : List ℕ} {q : Refusal} → Faulty last s q → q ≡ NoDepths → ⊥
 fault_not {last} {s} {q} A e = ⊎_elim (λ i. clash cc) (λ i. clash cc) (fault_is A).1

@@ -1,5 +1,7 @@
 -- From all that follows from the starts to the smallest assignment, its count and its greatest depth.
 -- Assumes nothing.
+use Rattle.code.specs.Flow.{Flowing}
+use Rattle.std.specs.Prelude.{Ok, Err, Some, None}
 use mathlib.Core.Path.{◌≡◌, refl, sym, ap, subst, ◌∙◌}
 use mathlib.Core.Bool.{Bool, true, false, cond}
 use mathlib.Core.List.Memᴰ
@@ -14,8 +16,6 @@ use lib.ListN.{length, get_or, take, drop}
 use lib.Seq.{length-take-le, get_or-take}
 use borrow.Author.Tests.{le-leb, leb-true}
 use Rattle.code.specs.declared.Flow.{Flow}
-use Rattle.code.specs.declared.Flowing.{Flowing}
-use Rattle.code.specs.declared.Flowing.TheVariants as F
 use Rattle.code.specs.Flow.{flow_of}
 use Rattle.code.specs.Depths.{Stands, Place, Assigns, Rising, Counts}
 use Rattle.code.proofs.Assigning.{smallest}
@@ -91,9 +91,9 @@ offsets_all i (x ∷ c) (suc j) o w l h =
 -- an offset before the end that is a place has an instruction, where there is no fault
 pub stands_by : {last : ℕ} (s : List ℕ) (o : ℕ) (x : Flowing) → flow_of last o (drop o s) ≡ x → NoFault last s
     → Place last s o → o < length s → (f : Flow) × Stands last s o f
-stands_by s o (F.Op f) e whole p l = (f, record { is = e })
-stands_by {last} s o F.End e whole p l = absurd (omega (arith, ends_over last s o e))
-stands_by s o (F.Refused q) e whole p l = absurd (whole q (faulty_at p e))
+stands_by s o (Ok (Some f)) e whole p l = (f, record { is = e })
+stands_by {last} s o (Ok None) e whole p l = absurd (omega (arith, ends_over last s o e))
+stands_by s o (Err q) e whole p l = absurd (whole q (faulty_at p e))
 
 module _ {last : ℕ} {s st : List ℕ} (c : List ℕ) (whole : NoFault last s) (A : Assigns last s st (depth_in c))
     (size : length c ≡ suc (length s)) where

@@ -1,6 +1,7 @@
 -- What it shows that a place is asked to have a depth, and what one instruction asks of the places it goes to. One law
 -- for each return of the code.
 -- Assumes nothing.
+use Rattle.op.specs.declared.Effect.{Effect}
 use Rattle.std.specs.Prelude.{Option, None, Some, Result, Ok, Err}
 use mathlib.Core.Path.{◌≡◌, refl, sym, subst, ◌∙◌}
 use mathlib.Core.Bool.{true, false}
@@ -15,7 +16,6 @@ use lib.Seq.{get_or-set_same}
 use borrow.Author.Tests.{leb-true, leb-false}
 use Rattle.base.proofs.Lists.{get_d_any}
 use Rattle.base.proofs.Bools.{not_both, clash}
-use Rattle.code.specs.declared.Change.{Change}
 use Rattle.code.specs.declared.Flow.{Flow}
 use Rattle.code.specs.declared.Goal.TheVariants.{Nowhere, To, Outside}
 use Rattle.code.specs.Depths.{Place, Jumps, Derived, fall, jump}
@@ -33,13 +33,13 @@ use Rattle.checker.proofs.Growing.{grew_then, goes_map}
 
 -- changes
 
-pub landed_low : (d : ℕ) (c : Change) → d + c.up < c.down → Landed d c None
+pub landed_low : (d : ℕ) (c : Effect) → d + c.up < c.down → Landed d c None
 landed_low d c l = λ e k. omega (arith, (leads_is d c e k).0)
 
-pub landed_high : (d : ℕ) (c : Change) (t : ℕ) → t + c.down ≡ d + c.up → 65535 < t → Landed d c None
+pub landed_high : (d : ℕ) (c : Effect) (t : ℕ) → t + c.down ≡ d + c.up → 65535 < t → Landed d c None
 landed_high d c t h l = λ e k. let z = leads_is d c e k in omega arith
 
-pub landed : (d : ℕ) (c : Change) (t : ℕ) → t + c.down ≡ d + c.up → t ≤ 65535 → Landed d c (Some t)
+pub landed : (d : ℕ) (c : Effect) (t : ℕ) → t + c.down ≡ d + c.up → t ≤ 65535 → Landed d c (Some t)
 landed d c t h l = (l, leads d c t h l)
 
 -- depths so far: a place without one gets one that is derived

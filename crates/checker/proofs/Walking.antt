@@ -1,5 +1,8 @@
 -- What the walks over the code and the starts show.
 -- Assumes nothing.
+use Rattle.code.specs.Decode.{instr}
+use Rattle.code.specs.Decode.{Step}
+use Rattle.std.specs.Prelude.{Ok, Err, Some, None}
 use mathlib.Core.Path.{◌≡◌, refl, sym, ap, subst, ◌∙◌}
 use mathlib.Core.Bool.{true, false, true≢false, false≢true}
 use mathlib.Core.List.{List}
@@ -14,9 +17,6 @@ use borrow.Author.Tests.{leb-true, leb-false}
 use Rattle.op.specs.declared.Operand.{Operand}
 use Rattle.op.specs.declared.Refusal.{Refusal}
 use Rattle.code.specs.declared.Flow.{Flow}
-use Rattle.code.specs.declared.Flowing.TheVariants as F
-use Rattle.code.specs.declared.Step.{Step}
-use Rattle.code.specs.declared.Step.TheVariants.{Instr, End, Refused}
 use Rattle.code.specs.Decode.{decode, size_in}
 use Rattle.code.specs.Flow.{flow_by, flow_of}
 use Rattle.code.specs.Depths.{Stands, Place}
@@ -33,25 +33,25 @@ module _ {last : ℕ} {s : List ℕ} {at : ℕ} where
   pub stands_sized : {f : Flow} → Stands last s at f → Sized last s at f.size
   stands_sized {f} h = record { stands = λ n. (f, (h, refl)); none = λ y. absurd (omega (arith, stands_size h)) }
 
-  sized : (k : ℕ) (o : Operand) (z : ℕ) → decode last at (drop at s) ≡ Instr k o z → Sized last s at z
+  sized : (k : ℕ) (o : Operand) (z : ℕ) → decode last at (drop at s) ≡ Ok (Some (instr k o z)) → Sized last s at z
   sized k o z e = stands_sized {f = flow_by (at + z) (length s) k o z} (record { is = sym (flow_op last at s k o z e) })
 
-  sized_fault : (q : Refusal) → decode last at (drop at s) ≡ Refused q → Sized last s at 0
+  sized_fault : (q : Refusal) → decode last at (drop at s) ≡ Err q → Sized last s at 0
   sized_fault q e = record {
     stands = λ n. absurd (n refl);
     none = λ y f h. stands_no_fault h (sym (flow_refused last at s q e));
   }
 
-  sized_end : decode last at (drop at s) ≡ End → Sized last s at 0
+  sized_end : decode last at (drop at s) ≡ (Ok None) → Sized last s at 0
   sized_end e = record {
     stands = λ n. absurd (n refl);
     none = λ y f h. omega (arith, stands_size h, ends_over last s at (sym (flow_end last at s e)));
   }
 
   sized_by : (x : Step) → decode last at (drop at s) ≡ x → Sized last s at (size_in x)
-  sized_by (Instr k o z) e = sized k o z e
-  sized_by End e = sized_end e
-  sized_by (Refused q) e = sized_fault q e
+  sized_by (Ok (Some (instr k o z))) e = sized k o z e
+  sized_by (Ok None) e = sized_end e
+  sized_by (Err q) e = sized_fault q e
 
   -- the size that the walk goes by
   pub sized_in_code : {r : ℕ} → r ≡ size_in (decode last at (drop at s)) → Sized last s at r
@@ -111,7 +111,7 @@ module _ {last : ℕ} {s w : List ℕ} {at : ℕ} (A : Marking last s w at) wher
   }
 
   -- where the walk comes to the end it met no fault, and marked all places
-  whole : flow_of last at (drop at s) ≡ F.End → NoFault last s × Marked last s (set w at place_mark)
+  whole : flow_of last at (drop at s) ≡ (Ok None) → NoFault last s × Marked last s (set w at place_mark)
   whole e = (
     whole_at A.here e,
     record {
@@ -123,9 +123,9 @@ module _ {last : ℕ} {s w : List ℕ} {at : ℕ} (A : Marking last s w at) wher
 
   pub walked : Sized last s at 0 → (x : Step) → decode last at (drop at s) ≡ x
       → Walked last s (set w at place_mark) (stop_of x)
-  walked Z (Instr k o z) e = absurd (Z.none refl _ (record { is = sym (flow_op last at s k o z e) }))
-  walked Z End e = whole (sym (flow_end last at s e))
-  walked Z (Refused q) e = faulty_at A.here (sym (flow_refused last at s q e))
+  walked Z (Ok (Some (instr k o z))) e = absurd (Z.none refl _ (record { is = sym (flow_op last at s k o z e) }))
+  walked Z (Ok None) e = whole (sym (flow_end last at s e))
+  walked Z (Err q) e = faulty_at A.here (sym (flow_refused last at s q e))
 
 -- marks, as the list finds them
 

@@ -1,17 +1,15 @@
 -- What the checker's inner functions promise one another. `last` is the last opcode of the table; c are the depth cells
 -- of the code and its end before a call, c' after it, w and w' the work cells beside them.
 -- Assumes nothing.
+use Rattle.code.specs.Decode.{Step}
+use Rattle.op.specs.declared.Effect.{Effect}
 use Rattle.std.specs.Prelude.{◌≡◌, Bool, true, false, List, ◌⊎◌, ℕ, suc, ◌+◌, ◌-◌, ◌*◌, ◌/◌, ◌%◌, ◌≤◌, ◌<◌, max, length, get_or, set, replicate, Option, None, Some, Result, Ok, Err}
 use Rattle.std.proofs.Math.Option.{some}
 use Rattle.std.specs.List.{fold}
 use Rattle.op.specs.declared.Refusal.{Refusal}
 use Rattle.op.specs.declared.Refusal.TheVariants.{NoDepths}
-use Rattle.code.specs.declared.Change.{Change}
 use Rattle.code.specs.declared.Flow.{Flow}
 use Rattle.code.specs.declared.Goal.TheVariants.{Nowhere}
-use Rattle.code.specs.declared.Step.{Step}
-use Rattle.code.specs.declared.Step.TheVariants.{Instr, End}
-use Rattle.code.specs.declared.Step.TheVariants as S
 use Rattle.code.specs.Depths.{Stands, Place, Faulty, Begins, Leads, Falls, Jumps, Kept, Assigns, Derived}
 use Rattle.code.specs.Tables.{code_limit, no_depth, word_max}
 use Rattle.checker.specs.declared.Assignment.{Assignment}
@@ -139,7 +137,7 @@ Handed c c' o d r =
     (w : List ℕ) (top : ℕ) → Ready c w top → PassesWith w top (λ x y. Asked c c' w x top o d y) r
 
 -- a depth after a change, where it is in range
-abbrev pub Landed : (d : ℕ) (change : Change) → Option ℕ → Type 0
+abbrev pub Landed : (d : ℕ) (change : Effect) → Option ℕ → Type 0
 Landed d change (Some e) = (e ≤ word_max) × Leads d change e
 Landed d change None = Leaves d change
 
@@ -237,9 +235,9 @@ pub record Sized (last : ℕ) (s : List ℕ) (at r : ℕ) : Type 0 where
 
 -- what a walk meets where no instruction stands
 abbrev pub stop_of : Step → Result (Unit {0}) Refusal
-stop_of (Instr k o z) = Ok tt
-stop_of End = Ok tt
-stop_of (S.Refused q) = Err q
+stop_of (Ok (Some i)) = Ok tt
+stop_of (Ok None) = Ok tt
+stop_of (Err q) = Err q
 
 -- the code has no fault
 abbrev pub NoFault : ℕ → List ℕ → Type 0

@@ -2,10 +2,9 @@
 -- the instruction there or takes its jump, and the depth is carried along by the effects alone. Nothing here speaks of
 -- an assignment. `last` is the last opcode of the table, s the code, st the starts.
 -- Assumes nothing.
-use Rattle.std.specs.Prelude.{◌≡◌, false, ◌⊎◌, ℕ, ◌+◌, ◌≤◌, ℤ, pos, ◌+ℤ◌}
+use Rattle.std.specs.Prelude.{◌≡◌, false, ◌⊎◌, ℕ, ◌+◌, ◌≤◌, ℤ, pos, ◌+ℤ◌, Ok}
 use mathlib.Core.List.{List, [], ◌∷◌, Memᴰ}
 use Rattle.op.specs.Effects.{effect_of, taken_of, dead_maker, net_of}
-use Rattle.op.specs.declared.NetEffect.TheVariants.{Net}
 use Rattle.op.specs.declared.Operand.TheVariants.{Offset}
 use Rattle.code.specs.Depths.{Begins}
 use Rattle.code.specs.Reading.{Spot, instructions_in}
@@ -28,7 +27,7 @@ pub record FallsThrough (last : ℕ) (s : List ℕ) (x y : Point) : Type 0 where
   pub live : dead_maker met.spot.what.opcode ≡ false
   pub behind : y.offset ≡ x.offset + met.spot.size
   pub effect : ℤ
-  pub net : net_of (effect_of met.spot.what.opcode met.spot.what.operand) ≡ Net effect
+  pub net : net_of (effect_of met.spot.what.opcode met.spot.what.operand) ≡ Ok effect
   pub depth : y.depth ≡ x.depth +ℤ effect
 
 -- a step to the target of the jump at x, by its taken effect
@@ -38,7 +37,7 @@ pub record TakesJump (last : ℕ) (s : List ℕ) (x y : Point) : Type 0 where
   pub operand : met.spot.what.operand ≡ Offset displacement
   pub target : pos y.offset ≡ pos (x.offset + jump_size) +ℤ displacement
   pub effect : ℤ
-  pub taken : net_of (taken_of met.spot.what.opcode) ≡ Net effect
+  pub taken : net_of (taken_of met.spot.what.opcode) ≡ Ok effect
   pub depth : y.depth ≡ x.depth +ℤ effect
 
 -- from x on, each place of a list is a step from the one before it

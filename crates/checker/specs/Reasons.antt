@@ -1,10 +1,10 @@
 -- Why no assignment of depths exists: what `explain` names beside 23. Each reason is one that R49 excludes, of depths
 -- that are derived from the starts. `last` is the last opcode of the table, s the code, st the starts.
 -- Assumes nothing.
+use Rattle.op.specs.declared.Effect.{Effect}
 use Rattle.std.specs.Prelude.{◌≡◌, List, ℕ, Ok, Err, Result}
 use Rattle.op.specs.declared.Refusal.{Refusal}
 use Rattle.op.specs.declared.Refusal.TheVariants.{NoDepths}
-use Rattle.code.specs.declared.Change.{Change}
 use Rattle.code.specs.declared.Flow.{Flow}
 use Rattle.code.specs.declared.Goal.TheVariants.{Nowhere, To}
 use Rattle.code.specs.Depths.{Stands, Place, Leads, Derived}
@@ -31,7 +31,7 @@ pub record Fails (last : ℕ) (s st : List ℕ) (o d : ℕ) (P : Flow → Type 0
   pub fault : P flow
 
 -- the change leads to no depth in range
-abbrev pub Leaves : ℕ → Change → Type 0
+abbrev pub Leaves : ℕ → Effect → Type 0
 Leaves d change = (e : ℕ) → Leads d change e → ⊥
 
 -- it is a jump, and its target is no place

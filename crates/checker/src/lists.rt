@@ -12,7 +12,7 @@ ghost use Rattle.checker.specs.Inner.{Took, StartsIn, Begun, Loaded, Drained, Ca
 use crate::visits::{Passed, Visit};
 use crate::walks::PLACE_MARK;
 use crate::{Reason, visits, walks};
-use code::{Flowing, START_CELLS, flows};
+use code::{START_CELLS, flows};
 
 // How far work on places one behind the other came.
 #[derive(Clone, Copy)]
@@ -49,9 +49,9 @@ fn expand(
 {
     let depth = cells[at];
     match flows::flow_at(code, at) {
-        Flowing::Op(flow) => Visit { at, depth, flow }.move_on(cells, work, top),
-        Flowing::End => Ok(Passed { top, next: None }),
-        Flowing::Refused(_) => Ok(Passed { top, next: None }),
+        Ok(Some(flow)) => Visit { at, depth, flow }.move_on(cells, work, top),
+        Ok(None) => Ok(Passed { top, next: None }),
+        Err(_) => Ok(Passed { top, next: None }),
     }
 }
 

@@ -6,7 +6,7 @@ ghost use Rattle.code.specs.declared.Goal.TheVariants.{To};
 ghost use Rattle.checker.specs.Inner.{place_mark, Ready, in_hand, Passes, Asked, Handed, Landed, FellInHand, Jumped, Moved};
 
 use crate::{Reason, walks};
-use code::{Change, Flow, Goal, WORD_MAX};
+use code::{Flow, Goal, WORD_MAX};
 
 // An instruction at an offset that has a depth.
 #[derive(Clone, Copy)]
@@ -26,7 +26,7 @@ pub struct Passed {
 }
 
 // The depth after a change, where it is in range.
-fn land(depth: u32, change: Change) -> Option<u32>
+fn land(depth: u32, change: Effect) -> Option<u32>
     ensures { Landed depth change result }
 {
     let have = u64::from(depth) + u64::from(change.up);
@@ -107,7 +107,7 @@ impl Visit {
         t: usize,
     ) -> Result<usize, Reason>
         requires { Ready cells.old work.old top × (self.flow.goal ≡ To t) }
-        ensures { Jumped self.flow cells.old cells.new work.old work.new
+        ensures { (Result (Builder × JumpLabel) Refusal) self.flow cells.old cells.new work.old work.new
             top self.at self.depth result }
     {
         let Visit { at, depth, flow } = self;
@@ -121,7 +121,7 @@ impl Visit {
     // The same, if the instruction is a jump.
     fn leap(self, cells: &mut [u32], work: &mut [u32], top: usize) -> Result<usize, Reason>
         requires { Ready cells.old work.old top }
-        ensures { Jumped self.flow cells.old cells.new work.old work.new
+        ensures { (Result (Builder × JumpLabel) Refusal) self.flow cells.old cells.new work.old work.new
             top self.at self.depth result }
     {
         let Visit { at, depth, flow } = self;

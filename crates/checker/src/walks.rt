@@ -22,13 +22,9 @@ fn stop(code: &[u8], at: usize) -> Result<(), Refusal>
     ensures { result ≡ stop_of (decode last_opcode at (drop at code.now)) }
 {
     match decoder::step_at(code, at) {
-        Step::Instr {
-            opcode: _,
-            operand: _,
-            size: _,
-        } => Ok(()),
-        Step::End => Ok(()),
-        Step::Refused(refusal) => Err(refusal),
+        Ok(Some(Instr { opcode: _, operand: _, size: _ })) => Ok(()),
+        Ok(None) => Ok(()),
+        Err(refusal) => Err(refusal),
     }
 }
 

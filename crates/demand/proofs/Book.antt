@@ -1,6 +1,7 @@
 -- The builder without its bytes: rows of what was accepted while live, how they grow and are patched, and the
 -- invariant of that.
 -- Assumes nothing.
+use Rattle.std.specs.Prelude.{Some, None}
 use mathlib.Core.Path.{◌≡◌}
 use mathlib.Core.Bool.{Bool, true, false}
 use mathlib.Core.List.{List, [], ◌∷◌, ◌++◌, map, Memᴰ as Mem}
@@ -8,8 +9,6 @@ use mathlib.Core.Option.{Option, some, none}
 use Prim.Native.Nat.{ℕ, ◌+◌, ◌≤◌}
 use lib.ListN.{set, get_elem?}
 use Rattle.builder.specs.Marks.{near}
-use Rattle.builder.specs.declared.Depth.{Depth}
-use Rattle.builder.specs.declared.Depth.TheVariants.{Dead, Live}
 use Rattle.builder.specs.declared.marks.Mark.{Mark}
 use Rattle.builder.specs.declared.marks.Mark.TheVariants.{Open, Patched, Target}
 use Rattle.demand.specs.Isa.{Isa}
@@ -19,7 +18,7 @@ use Rattle.demand.proofs.Laws.{Laws}
 pub record Book (I : Isa) : Type 0 where
   pub rows : List (Row I)
   pub len : ℕ
-  pub cur : Depth
+  pub cur : Option ℕ
   pub starts : List (ℕ × ℕ)
   pub marks : List Mark
 
@@ -33,13 +32,13 @@ module _ (I : Isa) where
   stops (leap j g) = I.jstops j
 
   -- the depth behind an instruction
-  abbrev pub after : Bool → Option ℕ → Depth
-  after true e = Dead
-  after false none = Dead
-  after false (some d) = Live d
+  abbrev pub after : Bool → Option ℕ → Option ℕ
+  after true e = None
+  after false none = None
+  after false (some d) = Some d
 
   -- more rows, starts and marks behind the others
-  abbrev pub grown : Book I → List (Row I) → List (ℕ × ℕ) → List Mark → ℕ → Depth → Book I
+  abbrev pub grown : Book I → List (Row I) → List (ℕ × ℕ) → List Mark → ℕ → Option ℕ → Book I
   grown b xs ss ms n c =
       record { rows = b.rows ++ xs; len = n; cur = c; starts = b.starts ++ ss; marks = b.marks ++ ms }
 
@@ -53,7 +52,7 @@ module _ (I : Isa) where
   patched b k o d = record {
     rows = map (resolve I k b.len) b.rows;
     len = b.len;
-    cur = Live d;
+    cur = Some d;
     starts = b.starts;
     marks = set b.marks k (Patched o d);
   }
@@ -72,7 +71,7 @@ WValid I L o (leap j (to t)) = L.jumps j × (near o t ≡ true)
 -- the depth d stands at o: an instruction's, or the live end's
 pub data Dep (I : Isa) (b : Book I) (o d : ℕ) : Type 0 where
   row : (r : Row I) → Mem r b.rows → r.offset ≡ o → r.depth ≡ d → Dep I b o d
-  tip : b.len ≡ o → b.cur ≡ Live d → Dep I b o d
+  tip : b.len ≡ o → b.cur ≡ Some d → Dep I b o d
 
 -- the depth d comes to o from the starts, along fall-throughs and jumps
 pub data Der (I : Isa) (b : Book I) : ℕ → ℕ → Type 0 where
@@ -95,7 +94,7 @@ pub record RowOK (I : Isa) (L : Laws I) (b : Book I) (r : Row I) : Type 0 where
 pub record Good (I : Isa) (L : Laws I) (b : Book I) : Type 0 where
   pub chain : Chain I 0 b.rows b.len
   pub each : (r : Row I) → Mem r b.rows → RowOK I L b r
-  pub tips : (d : ℕ) → b.cur ≡ Live d → Der I b b.len d × (d ≤ 65535)
+  pub tips : (d : ℕ) → b.cur ≡ Some d → Der I b b.len d × (d ≤ 65535)
   pub begins : (o d : ℕ) → Mem (o, d) b.starts → Dep I b o d
   pub opens : (r : Row I) (j : I.Jump) (k : ℕ) → Mem r b.rows → r.what ≡ leap j (waits k)
       → (d : ℕ) × (get_elem? b.marks k ≡ some (Open r.offset d)) × (I.taken j r.depth ≡ some d)

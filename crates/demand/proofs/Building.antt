@@ -1,5 +1,7 @@
 -- What an accepted build says: the code is within its limit, and no label is open, so no jump waits.
 -- Assumes nothing.
+use Rattle.op.specs.declared.Refusal.{Refusal}
+use Rattle.std.specs.Prelude.{Ok, Err, Result}
 use mathlib.Core.Path.{◌≡◌, refl, sym, ap, ◌∙◌}
 use mathlib.Core.Bool.{Bool, true, false, cond, ◌&&◌, ◌||◌}
 use mathlib.Core.Logic.{◌⊎◌, inl, inr}
@@ -16,8 +18,6 @@ use Rattle.builder.specs.Marks.{any_open}
 use Rattle.builder.specs.Names.{filled_names, build_of}
 use Rattle.builder.specs.Marks.{open_kind, mark_of, mark_at}
 use Rattle.code.specs.Tables.{code_limit, mark_cells, within}
-use Rattle.builder.specs.declared.Answer.{Answer}
-use Rattle.builder.specs.declared.Answer.TheVariants.{Accepted, Refused}
 use Rattle.builder.specs.declared.Builder.{Builder}
 use Rattle.builder.specs.declared.marks.Mark.TheVariants.{Absent, Open, Patched, Target}
 use Rattle.demand.specs.Machine.{isa}
@@ -33,7 +33,7 @@ use Rattle.demand.proofs.Contracts.{made_step}
 use Rattle.demand.proofs.View.{tab}
 
 built_facts : (b : Builder) (fill : ℕ) (names marks : List ℕ) (n : Builder)
-    → (build_of b fill names marks).answer ≡ Accepted n
+    → (build_of b fill names marks).answer ≡ Ok n
     → (b.core.code ≤ code_limit) × (any_open b.core.marks marks ≡ false) × (n ≡ b)
 unfolding build_of
 built_facts b fill names marks n e =
@@ -43,8 +43,8 @@ built_facts b fill names marks n e =
   where
     go : (s t u : Bool) → leb b.core.code code_limit ≡ s → any_open b.core.marks marks ≡ u
         → (unless (s && t) Unsound names
-        (cond u (kept (Refused OpenLabel) names) (kept (Accepted b) (filled_names b.names fill names)))).answer
-        ≡ Accepted n
+        (cond u (kept (Err OpenLabel) names) (kept (Ok b) (filled_names b.names fill names)))).answer
+        ≡ Ok n
         → (b.core.code ≤ code_limit) × (any_open b.core.marks marks ≡ false) × (n ≡ b)
     go true true false p q e = (leb-true b.core.code code_limit p, q, cc)
     go true true true p q e = clash cc
@@ -66,12 +66,12 @@ builds fill w w' m =
     go (build_of w.state fill w.names w.marks).answer refl (sym (ap (λ (t : Turn). t.answer) e))
     (ap (λ (t : Turn). t.left) e)
   where
-    go : (a : Answer) → (build_of w.state fill w.names w.marks).answer ≡ a → given a ≡ ok
+    go : (a : Result Builder Refusal) → (build_of w.state fill w.names w.marks).answer ≡ a → given a ≡ ok
         → w' ≡ world (after a w.state) w.code w.locations w.exceptions w.constants
         (build_of w.state fill w.names w.marks).cells w.marks w.starts
         → Builds w w'
-    go (Refused r) p q l = clash cc
-    go (Accepted n) p q l =
+    go (Err r) p q l = clash cc
+    go (Ok n) p q l =
         let f = built_facts w.state fill w.names w.marks n p in
         record {
           limit = f.0;

@@ -1,5 +1,6 @@
 -- The bytes of the rows, and their depths; a patch of the bytes is a patch of the rows.
 -- Assumes nothing.
+use Rattle.std.specs.Prelude.{Some, None, Option}
 use mathlib.Core.Path.{◌≡◌, refl, sym, ap, ◌∙◌}
 use mathlib.Core.Bool.{Bool, true, false, cond}
 use mathlib.Core.Logic.{◌⊎◌, inl, inr}
@@ -16,8 +17,6 @@ use borrow.Author.Tests.{eqb-true, eq-eqb, ne_eqb}
 use Rattle.base.proofs.Bools.{clash}
 use Rattle.base.proofs.Lists.{set_skip}
 use Rattle.builder.specs.Marks.{near, bits}
-use Rattle.builder.specs.declared.Depth.{Depth}
-use Rattle.builder.specs.declared.Depth.TheVariants.{Dead, Live}
 use Rattle.demand.specs.Isa.{Isa}
 use Rattle.demand.specs.History.{waits, to, What, one, leap, Row, size, settled_aim, resolve, at_end, depth_at}
 use Rattle.demand.proofs.Laws.{Laws}
@@ -70,31 +69,31 @@ module _ (I : Isa) (L : Laws I) where
   chain_in o n (x ∷ rs) r h (mtail m) = omega (arith, chain_in (o + size I x.what) n rs r h.1 m, size_some x.what)
 
   -- the depth at an offset is what the rows and the end say, and all that they say
-  pub depth_sound : (rs : List (Row I)) (n : ℕ) (c : Depth) (o d : ℕ) → depth_at I rs n c o ≡ some d
-      → ((r : Row I) × Mem r rs × (r.offset ≡ o) × (r.depth ≡ d)) ⊎ ((n ≡ o) × (c ≡ Live d))
+  pub depth_sound : (rs : List (Row I)) (n : ℕ) (c : Option ℕ) (o d : ℕ) → depth_at I rs n c o ≡ some d
+      → ((r : Row I) × Mem r rs × (r.offset ≡ o) × (r.depth ≡ d)) ⊎ ((n ≡ o) × (c ≡ Some d))
   depth_sound [] n c o d h = go (eqb n o) refl c h
     where
-      go : (x : Bool) → eqb n o ≡ x → (c : Depth) → cond x (at_end c) none ≡ some d
-          → ((r : Row I) × Mem r [] × (r.offset ≡ o) × (r.depth ≡ d)) ⊎ ((n ≡ o) × (c ≡ Live d))
+      go : (x : Bool) → eqb n o ≡ x → (c : Option ℕ) → cond x (at_end c) none ≡ some d
+          → ((r : Row I) × Mem r [] × (r.offset ≡ o) × (r.depth ≡ d)) ⊎ ((n ≡ o) × (c ≡ Some d))
       go false e c h = clash cc
-      go true e Dead h = clash cc
-      go true e (Live x) h = inr (eqb-true n o e, cc)
+      go true e None h = clash cc
+      go true e (Some x) h = inr (eqb-true n o e, cc)
   depth_sound (x ∷ rs) n c o d h =
       go (eqb x.offset o) refl h (λ (k : depth_at I rs n c o ≡ some d). depth_sound rs n c o d k)
     where
-      up : ((r : Row I) × Mem r rs × (r.offset ≡ o) × (r.depth ≡ d)) ⊎ ((n ≡ o) × (c ≡ Live d))
-          → ((r : Row I) × Mem r (x ∷ rs) × (r.offset ≡ o) × (r.depth ≡ d)) ⊎ ((n ≡ o) × (c ≡ Live d))
+      up : ((r : Row I) × Mem r rs × (r.offset ≡ o) × (r.depth ≡ d)) ⊎ ((n ≡ o) × (c ≡ Some d))
+          → ((r : Row I) × Mem r (x ∷ rs) × (r.offset ≡ o) × (r.depth ≡ d)) ⊎ ((n ≡ o) × (c ≡ Some d))
       up (inl t) = inl (t.0, mtail t.1, t.2, t.3)
       up (inr t) = inr t
 
       go : (y : Bool) → eqb x.offset o ≡ y → cond y (some x.depth) (depth_at I rs n c o) ≡ some d
           → (depth_at I rs n c o ≡ some d → ((r : Row I) × Mem r rs × (r.offset ≡ o) × (r.depth ≡ d)) ⊎
-          ((n ≡ o) × (c ≡ Live d)))
-          → ((r : Row I) × Mem r (x ∷ rs) × (r.offset ≡ o) × (r.depth ≡ d)) ⊎ ((n ≡ o) × (c ≡ Live d))
+          ((n ≡ o) × (c ≡ Some d)))
+          → ((r : Row I) × Mem r (x ∷ rs) × (r.offset ≡ o) × (r.depth ≡ d)) ⊎ ((n ≡ o) × (c ≡ Some d))
       go true e h k = inl (x, mhead refl, eqb-true x.offset o e, cc)
       go false e h k = up (k h)
 
-  pub depth_row : (s : ℕ) (rs : List (Row I)) (n : ℕ) (c : Depth) (r : Row I) → Chain I s rs n → Mem r rs
+  pub depth_row : (s : ℕ) (rs : List (Row I)) (n : ℕ) (c : Option ℕ) (r : Row I) → Chain I s rs n → Mem r rs
       → depth_at I rs n c r.offset ≡ some r.depth
   depth_row s [] n c r h m = elim m [ ]
   depth_row s (x ∷ rs) n c r h (mhead e) = rw (e, eq-eqb x.offset x.offset refl)
@@ -105,7 +104,7 @@ module _ (I : Isa) (L : Laws I) where
       let h0 = h.0 in
       rw (ne_eqb x.offset r.offset (λ e. omega arith)) (depth_row (s + size I x.what) rs n c r h.1 m)
 
-  pub depth_tip : (s : ℕ) (rs : List (Row I)) (n : ℕ) (d : ℕ) → Chain I s rs n → depth_at I rs n (Live d) n ≡ some d
+  pub depth_tip : (s : ℕ) (rs : List (Row I)) (n : ℕ) (d : ℕ) → Chain I s rs n → depth_at I rs n (Some d) n ≡ some d
   depth_tip s [] n d h = rw (eq-eqb n n refl)
   depth_tip s (x ∷ rs) n d h =
       let q = chain_in s n (x ∷ rs) x h (mhead refl) in

@@ -1,5 +1,6 @@
 -- The greatest depth that rows and their end show is that of their depths.
 -- Assumes nothing.
+use Rattle.std.specs.Prelude.{Some, None}
 use mathlib.Core.Path.{◌≡◌, refl, ap, ◌∙◌}
 use mathlib.Core.Bool.{Bool, true, false, cond}
 use mathlib.Core.Logic.{◌⊎◌, ⊎_elim, inl, inr}
@@ -11,8 +12,6 @@ use Prim.Native.Nat.{ℕ, ◌≤◌, max}
 use native.Mathlib.Decide.{dec_le}
 use native.Mathlib.Omega.{arith}
 use lib.Dec.{eqb}
-use Rattle.builder.specs.declared.Depth.{Depth}
-use Rattle.builder.specs.declared.Depth.TheVariants.{Dead, Live}
 use Rattle.checker.specs.Promise.{Greatest}
 use Rattle.demand.specs.Machine.{isa}
 use Rattle.demand.specs.History.{Row, depth_at}
@@ -23,26 +22,26 @@ use Rattle.demand.proofs.Machining.{laws}
 
 -- no row, and no live end, is deeper
 
-row_under : (rs : List (Row isa)) (here : Depth) (r : Row isa) → Mem r rs → r.depth ≤ deepest_seen rs here
+row_under : (rs : List (Row isa)) (here : Option ℕ) (r : Row isa) → Mem r rs → r.depth ≤ deepest_seen rs here
 row_under [] here r m = elim m [ ]
 row_under (x ∷ rs) here r (mhead e) =
     let z : r.depth ≡ x.depth = ap (λ (y : Row isa). y.depth) e in
     omega arith
 row_under (x ∷ rs) here r (mtail m) = let h = row_under rs here r m in omega arith
 
-end_under : (rs : List (Row isa)) (d : ℕ) → d ≤ deepest_seen rs (Live d)
+end_under : (rs : List (Row isa)) (d : ℕ) → d ≤ deepest_seen rs (Some d)
 end_under [] d = omega arith
 end_under (x ∷ rs) d = let h = end_under rs d in omega arith
 
 -- a row has it, or the live end; or there is neither
 
-abbrev Shows : List (Row isa) → Depth → ℕ → Type 0
+abbrev Shows : List (Row isa) → Option ℕ → ℕ → Type 0
 Shows rs here g =
-    ((r : Row isa) × Mem r rs × (r.depth ≡ g)) ⊎ ((here ≡ Live g) ⊎ ((rs ≡ []) × (here ≡ Dead) × (g ≡ 0)))
+    ((r : Row isa) × Mem r rs × (r.depth ≡ g)) ⊎ ((here ≡ Some g) ⊎ ((rs ≡ []) × (here ≡ None) × (g ≡ 0)))
 
-shown : (rs : List (Row isa)) (here : Depth) → Shows rs here (deepest_seen rs here)
-shown [] Dead = inr (inr (refl, refl, refl))
-shown [] (Live d) = inr (inl refl)
+shown : (rs : List (Row isa)) (here : Option ℕ) → Shows rs here (deepest_seen rs here)
+shown [] None = inr (inr (refl, refl, refl))
+shown [] (Some d) = inr (inl refl)
 shown (x ∷ rs) here = elim (dec_le (deepest_seen rs here) x.depth) [
   | yes l ↦ inl (x, mhead refl, omega arith)
   | no l ↦ (let z : max x.depth (deepest_seen rs here) ≡ deepest_seen rs here = omega arith in
@@ -50,14 +49,14 @@ shown (x ∷ rs) here = elim (dec_le (deepest_seen rs here) x.depth) [
       (⊎_elim (λ e. inr (inl e)) (λ t. absurd (omega (arith, t.2)))) (shown rs here)))
 ]
 
-nowhere : (n o : ℕ) → depth_at isa [] n Dead o ≡ none
+nowhere : (n o : ℕ) → depth_at isa [] n None o ≡ none
 nowhere n o = go (eqb n o)
   where
     go : (b : Bool) → cond {A = Option ℕ} b none none ≡ none
     go true = refl
     go false = refl
 
-pub greatest_seen : (rs : List (Row isa)) (n : ℕ) (here : Depth) → Chain isa 0 rs n
+pub greatest_seen : (rs : List (Row isa)) (n : ℕ) (here : Option ℕ) → Chain isa 0 rs n
     → Greatest (λ o. depth_at isa rs n here o) (deepest_seen rs here)
 greatest_seen rs n here chain = record {
   most = λ o d e. ⊎_elim
@@ -70,5 +69,5 @@ greatest_seen rs n here chain = record {
       (λ t. inr (t.2, rw (t.0, t.1) (nowhere n)))) (shown rs here);
 }
   where
-    tip : (g : ℕ) → here ≡ Live g → depth_at isa rs n here n ≡ some g
+    tip : (g : ℕ) → here ≡ Some g → depth_at isa rs n here n ≡ some g
     tip g e = rw e (depth_tip isa laws 0 rs n g chain)

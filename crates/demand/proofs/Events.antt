@@ -1,5 +1,6 @@
 -- Each single call keeps the invariant.
 -- Assumes nothing.
+use Rattle.std.specs.Prelude.{Some, None}
 use mathlib.Core.Path.{◌≡◌, refl, sym, ap}
 use mathlib.Core.Bool.{Bool, true, false}
 use mathlib.Core.List.Memᴰ.{head as mhead}
@@ -11,7 +12,6 @@ use native.Mathlib.Omega.{arith}
 use lib.ListN.{length, get_elem?}
 use Rattle.base.proofs.Bools.{clash}
 use Rattle.builder.specs.Marks.{near}
-use Rattle.builder.specs.declared.Depth.TheVariants.{Dead, Live}
 use Rattle.builder.specs.declared.marks.Mark.{Mark}
 use Rattle.builder.specs.declared.marks.Mark.TheVariants.{Open, Target}
 use Rattle.demand.specs.Isa.{Isa}
@@ -21,7 +21,7 @@ use Rattle.base.proofs.Lists.{nth_seam}
 use Rattle.demand.proofs.Book.{Book, net, stops, after, grown, push, WValid, Dep, row, tip, Der, begin, fall, RowOK, Good, Moves, der_moves}
 use Rattle.demand.proofs.Grow.{grow, moves_grown}
 
-pub after_live : (I : Isa) (s : Bool) (e : Option ℕ) (d : ℕ) → after I s e ≡ Live d → (s ≡ false) × (e ≡ some d)
+pub after_live : (I : Isa) (s : Bool) (e : Option ℕ) (d : ℕ) → after I s e ≡ Some d → (s ≡ false) × (e ≡ some d)
 after_live I true e d h = clash cc
 after_live I false none d h = clash cc
 after_live I false (some e) d h = (refl, cc)
@@ -38,7 +38,7 @@ Marked I b d w ms = ((j : I.Jump) (k : ℕ) → w ≡ leap j (waits k)
     → (j : I.Jump) × (w ≡ leap j (waits (length b.marks + i))) × (b.len ≡ o))
     × ((i o t : ℕ) → get_elem? ms i ≡ some (Target o t) → ⊥)
 
-module _ (I : Isa) (L : Laws I) (b : Book I) (g : Good I L b) (d : ℕ) (l : b.cur ≡ Live d) where
+module _ (I : Isa) (L : Laws I) (b : Book I) (g : Good I L b) (d : ℕ) (l : b.cur ≡ Some d) where
   pub push_good : (w : What I) (ms : List Mark) → WValid I L b.len w → (e : ℕ) → net I w d ≡ some e
       → ((j : I.Jump) (u : Aim) → w ≡ leap j u → (t : ℕ) × (I.taken j d ≡ some t))
       → ((j : I.Jump) (o t : ℕ) → w ≡ leap j (to o) → I.taken j d ≡ some t → Dep I b o t)
@@ -65,7 +65,7 @@ module _ (I : Isa) (L : Laws I) (b : Book I) (g : Good I L b) (d : ℕ) (l : b.c
       mem : Mem r (b.rows ++ (r ∷ []))
       mem = Memᴰ.append_right b.rows (mhead refl)
 
-      bridge : (t : ℕ) → b.cur ≡ Live t → Dep I (push I b d w ms) b.len t
+      bridge : (t : ℕ) → b.cur ≡ Some t → Dep I (push I b d w ms) b.len t
       bridge t h = row r mem refl (cc)
 
       mv : Moves I b (push I b d w ms)
@@ -74,7 +74,7 @@ module _ (I : Isa) (L : Laws I) (b : Book I) (g : Good I L b) (d : ℕ) (l : b.c
       came : Der I (push I b d w ms) b.len d
       came = der_moves mv (g.tips d l).0
 
-      tips : (t : ℕ) → after I (stops I w) (net I w d) ≡ Live t
+      tips : (t : ℕ) → after I (stops I w) (net I w d) ≡ Some t
           → Der I (push I b d w ms) (b.len + size I w) t × (t ≤ 65535)
       tips t h = let k = after_live I (stops I w) (net I w d) t h in (fall r mem came k.0 k.1 refl, net_small I L w d t k.1)
 
@@ -132,8 +132,8 @@ module _ (I : Isa) (L : Laws I) (b : Book I) (g : Good I L b) (d : ℕ) (l : b.c
         (λ i o f h. let q = one_mark (Open b.len t) (Target o f) i h in let q'' = q.1 in clash cc),
       )
 
-  pub target_good : Good I L (grown I b [] [] (Target b.len d ∷ []) b.len (Live d))
-  target_good = grow I L b [] [] (Target b.len d ∷ []) b.len (Live d) g (record {
+  pub target_good : Good I L (grown I b [] [] (Target b.len d ∷ []) b.len (Some d))
+  target_good = grow I L b [] [] (Target b.len d ∷ []) b.len (Some d) g (record {
     chain = refl;
     bridge = bridge;
     each = λ r m. absurd (Memᴰ.not-nil m);
@@ -144,21 +144,21 @@ module _ (I : Isa) (L : Laws I) (b : Book I) (g : Good I L b) (d : ℕ) (l : b.c
     spots = λ i o t h. let q = one_mark (Target b.len d) (Target o t) i h in let q'' = q.1 in tip (cc) (cc);
   })
     where
-      bridge : (t : ℕ) → b.cur ≡ Live t → Dep I (grown I b [] [] (Target b.len d ∷ []) b.len (Live d)) b.len t
+      bridge : (t : ℕ) → b.cur ≡ Some t → Dep I (grown I b [] [] (Target b.len d ∷ []) b.len (Some d)) b.len t
       bridge t h = tip refl (cc)
 
-      mv : Moves I b (grown I b [] [] (Target b.len d ∷ []) b.len (Live d))
-      mv = moves_grown I L b [] [] (Target b.len d ∷ []) b.len (Live d) bridge
+      mv : Moves I b (grown I b [] [] (Target b.len d ∷ []) b.len (Some d))
+      mv = moves_grown I L b [] [] (Target b.len d ∷ []) b.len (Some d) bridge
 
 module _ (I : Isa) (L : Laws I) (b : Book I) (g : Good I L b) where
-  pub region_good : (d : ℕ) → b.cur ≡ Dead → d ≤ 65535
-      → Good I L (grown I b [] ((b.len, d) ∷ []) [] b.len (Live d))
-  region_good d l s = grow I L b [] ((b.len, d) ∷ []) [] b.len (Live d) g (record {
+  pub region_good : (d : ℕ) → b.cur ≡ None → d ≤ 65535
+      → Good I L (grown I b [] ((b.len, d) ∷ []) [] b.len (Some d))
+  region_good d l s = grow I L b [] ((b.len, d) ∷ []) [] b.len (Some d) g (record {
     chain = refl;
     bridge = λ t h. clash cc;
     each = λ r m. absurd (Memᴰ.not-nil m);
     tips = λ t h. let q : d ≡ t = cc in rw (← q) (begin (Memᴰ.append_right b.starts (mhead refl)), s);
-    begins = λ o t m. let q = Memᴰ.eq_of_singleton m in tip (sym (ap (λ (x : ℕ × ℕ). x.0) q)) (sym (ap (λ (x : ℕ × ℕ). Live x.1) q));
+    begins = λ o t m. let q = Memᴰ.eq_of_singleton m in tip (sym (ap (λ (x : ℕ × ℕ). x.0) q)) (sym (ap (λ (x : ℕ × ℕ). Some x.1) q));
     opens = λ r j k m h. absurd (Memᴰ.not-nil m);
     labels = λ i o t h. clash cc;
     spots = λ i o t h. clash cc;

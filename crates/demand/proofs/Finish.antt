@@ -1,6 +1,7 @@
 -- Rows with the invariant, where no jump waits: their depths are the smallest assignment for their bytes and the
 -- starts.
 -- Assumes nothing.
+use Rattle.std.specs.Prelude.{Some}
 use mathlib.Core.Path.{◌≡◌, refl, sym, subst, ◌∙◌}
 use mathlib.Core.Logic.{◌⊎◌, inl, inr}
 use mathlib.Core.List.{List, map, Memᴰ as Mem}
@@ -21,7 +22,6 @@ use Rattle.code.proofs.Assigning.{derived_in, smallest}
 use Rattle.code.proofs.Moving.{goal_target}
 use Rattle.code.proofs.Places.{stands_one, place_le}
 use Rattle.code.specs.Tables.{jump_size}
-use Rattle.builder.specs.declared.Depth.TheVariants.{Live}
 use Rattle.checker.specs.Promise.{Listed}
 use Rattle.demand.specs.Machine.{isa}
 use Rattle.demand.specs.History.{waits, to, What, one, leap, Row, size, depth_at}
@@ -51,7 +51,7 @@ module _ (b : Book isa) (g : Good isa laws b)
   sound : (o d : ℕ) → depths o ≡ some d → Dep isa b o d
   sound o d h = go (depth_sound isa laws b.rows b.len b.cur o d h)
     where
-      go : ((r : Row isa) × Mem r b.rows × (r.offset ≡ o) × (r.depth ≡ d)) ⊎ ((b.len ≡ o) × (b.cur ≡ Live d))
+      go : ((r : Row isa) × Mem r b.rows × (r.offset ≡ o) × (r.depth ≡ d)) ⊎ ((b.len ≡ o) × (b.cur ≡ Some d))
           → Dep isa b o d
       go (inl t) = row t.0 t.1 t.2 t.3
       go (inr t) = tip t.0 t.1

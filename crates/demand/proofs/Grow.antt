@@ -1,5 +1,6 @@
 -- More rows, starts and marks behind the others keep the invariant.
 -- Assumes nothing.
+use Rattle.std.specs.Prelude.{Some, Option}
 use mathlib.Core.Path.{◌≡◌, refl}
 use mathlib.Core.Logic.{◌⊎◌, inl, inr}
 use mathlib.Core.List.{List, [], ◌∷◌, ◌++◌, Memᴰ as Mem}
@@ -7,8 +8,6 @@ use mathlib.Core.List.Memᴰ
 use mathlib.Core.Option.{some}
 use Prim.Native.Nat.{ℕ, ◌+◌, ◌≤◌}
 use lib.ListN.{length, get_elem?}
-use Rattle.builder.specs.declared.Depth.{Depth}
-use Rattle.builder.specs.declared.Depth.TheVariants.{Live}
 use Rattle.builder.specs.declared.marks.Mark.{Mark}
 use Rattle.builder.specs.declared.marks.Mark.TheVariants.{Open, Target}
 use Rattle.demand.specs.Isa.{Isa}
@@ -26,9 +25,9 @@ chain_append I o n (x ∷ xs) ys m h k = (h.0, chain_append I (o + size I x.what
 pub record Grows (I : Isa) (L : Laws I) (b c : Book I) (xs : List (Row I)) (ss : List (ℕ × ℕ)) (ms : List Mark)
     : Type 0 where
   pub chain : Chain I b.len xs c.len
-  pub bridge : (d : ℕ) → b.cur ≡ Live d → Dep I c b.len d
+  pub bridge : (d : ℕ) → b.cur ≡ Some d → Dep I c b.len d
   pub each : (r : Row I) → Mem r xs → RowOK I L c r
-  pub tips : (d : ℕ) → c.cur ≡ Live d → Der I c c.len d × (d ≤ 65535)
+  pub tips : (d : ℕ) → c.cur ≡ Some d → Der I c c.len d × (d ≤ 65535)
   pub begins : (o d : ℕ) → Mem (o, d) ss → Dep I c o d
   pub opens : (r : Row I) (j : I.Jump) (k : ℕ) → Mem r xs → r.what ≡ leap j (waits k)
       → (d : ℕ) × (get_elem? c.marks k ≡ some (Open r.offset d)) × (I.taken j r.depth ≡ some d)
@@ -37,13 +36,13 @@ pub record Grows (I : Isa) (L : Laws I) (b c : Book I) (xs : List (Row I)) (ss :
   pub spots : (i o d : ℕ) → get_elem? ms i ≡ some (Target o d) → Dep I c o d
 
 module _ (I : Isa) (L : Laws I) (b : Book I) (xs : List (Row I)) (ss : List (ℕ × ℕ)) (ms : List Mark) (n : ℕ)
-    (z : Depth) where
-  dep_grown : ((d : ℕ) → b.cur ≡ Live d → Dep I (grown I b xs ss ms n z) b.len d)
+    (z : Option ℕ) where
+  dep_grown : ((d : ℕ) → b.cur ≡ Some d → Dep I (grown I b xs ss ms n z) b.len d)
       → (o d : ℕ) → Dep I b o d → Dep I (grown I b xs ss ms n z) o d
   dep_grown br o d (row r m e f) = row r (Memᴰ.append_left xs m) e f
   dep_grown br o d (tip e f) = rw e at (br d f)
 
-  pub moves_grown : ((d : ℕ) → b.cur ≡ Live d → Dep I (grown I b xs ss ms n z) b.len d)
+  pub moves_grown : ((d : ℕ) → b.cur ≡ Some d → Dep I (grown I b xs ss ms n z) b.len d)
       → Moves I b (grown I b xs ss ms n z)
   moves_grown br = record {
     rows = λ r m. (r, Memᴰ.append_left xs m, refl, refl, refl, refl, refl, λ j t e. e);

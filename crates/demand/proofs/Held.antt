@@ -1,5 +1,10 @@
 -- The used code stays within the lent code, which the moves of `current_jump_target` and `new_code_region` ask for.
 -- Assumes nothing.
+use Rattle.builder.specs.Patch.{patching}
+use Rattle.builder.specs.Patch.{PatchDecision}
+use Rattle.builder.specs.Plan.{planned}
+use Rattle.builder.specs.Plan.{Decision}
+use Rattle.std.specs.Prelude.{Ok, Err, Some, None, Option}
 use mathlib.Core.Path.{◌≡◌, refl}
 use mathlib.Core.List.{List, []}
 use Prim.Native.Nat.{ℕ, ◌+◌, ◌≤◌}
@@ -11,14 +16,9 @@ use Rattle.code.specs.Bytes.{word_bytes}
 use Rattle.code.specs.Encode.{encode}
 use Rattle.code.proofs.Inverse.{length_encode}
 use Rattle.builder.specs.declared.Builder.{Builder}
-use Rattle.builder.specs.declared.Depth.{Depth}
 use Rattle.builder.specs.declared.JumpLabel.{JumpLabel}
 use Rattle.builder.specs.declared.JumpLabel.TheVariants as L
 use Rattle.builder.specs.declared.JumpTarget.{JumpTarget}
-use Rattle.builder.specs.declared.patch.PatchPlan.{PatchPlan}
-use Rattle.builder.specs.declared.patch.PatchPlan.TheVariants as Patching
-use Rattle.builder.specs.declared.plan.Plan.{Plan}
-use Rattle.builder.specs.declared.plan.Plan.TheVariants.{Idle, Refuse, Go}
 use Rattle.code.specs.Tables.{put}
 use Rattle.builder.specs.Plan.{plan_of}
 use Rattle.builder.specs.Emission.{commit_of, emit_core, outcome_by, emit_named}
@@ -35,7 +35,7 @@ use Rattle.builder.proofs.PatchPlans.{patch_guard_go, patch_goes}
 use Rattle.demand.proofs.Idle.{guard_never}
 
 module _ (b : Builder) (k : ℕ) (code locs : List ℕ) (within : b.core.code ≤ length code) where
-  put_held : (d : ℕ) (o : Operand) (ns : List ℕ) (word s w : ℕ) (a : Depth)
+  put_held : (d : ℕ) (o : Operand) (ns : List ℕ) (word s w : ℕ) (a : Option ℕ)
       → LiveGoes b.core b.location d k o (length ns) word (length code) (length locs) s a w
       → b.core.code + s ≤ length (put b.core.code (encode k o ns) code)
   put_held d o ns word s w a g =
@@ -43,12 +43,12 @@ module _ (b : Builder) (k : ℕ) (code locs : List ℕ) (within : b.core.code �
       omega (arith, length_put b.core.code (encode k o ns) code (omega (arith, z, g.size, g.code)), g.code)
 
   module _ (name : ℕ) (o : Operand) (ns : List ℕ) where
-    emit_held_by : (p : Plan) → plan_of b.core b.location k name o (length ns) (length code) (length locs) ≡ p
+    emit_held_by : (p : Decision) → plan_of b.core b.location k name o (length ns) (length code) (length locs) ≡ p
         → (after (outcome_by b (commit_of p b.core b.location (encode k o ns) code locs)).answer b).core.code
         ≤ length (commit_of p b.core b.location (encode k o ns) code locs).code
-    emit_held_by Idle e = within
-    emit_held_by (Refuse r) e = within
-    emit_held_by (Go a w s) e =
+    emit_held_by (Ok None) e = within
+    emit_held_by (Err r) e = within
+    emit_held_by (Ok (Some (planned a w s))) e =
         let g = plan_goes b.core b.location k name o (length ns) (length code) (length locs) s w a e in
         put_held g.here o ns 0 s w a g.goes
 
@@ -58,12 +58,12 @@ module _ (b : Builder) (k : ℕ) (code locs : List ℕ) (within : b.core.code �
     emit_held = emit_held_by (plan_of b.core b.location k name o (length ns) (length code) (length locs)) refl
 
   module _ (marks : List ℕ) where
-    jump_held_by : (p : Plan) → jump_plan_of b.core b.location k (length code) (length locs) (length marks) ≡ p
+    jump_held_by : (p : Decision) → jump_plan_of b.core b.location k (length code) (length locs) (length marks) ≡ p
         → (after_jump (commit_jump p b k code locs marks).answer b).core.code
         ≤ length (commit_jump p b k code locs marks).code
-    jump_held_by Idle e = within
-    jump_held_by (Refuse r) e = within
-    jump_held_by (Go a w s) e =
+    jump_held_by (Ok None) e = within
+    jump_held_by (Err r) e = within
+    jump_held_by (Ok (Some (planned a w s))) e =
         let g = forward_goes b.core b.location k (length code) (length locs) (length marks) s w a e in
         put_held g.here unpatched [] w s w a g.goes
 
@@ -73,12 +73,12 @@ module _ (b : Builder) (k : ℕ) (code locs : List ℕ) (within : b.core.code �
     jump_held = jump_held_by (jump_plan_of b.core b.location k (length code) (length locs) (length marks)) refl
 
     module _ (t : JumpTarget) where
-      to_held_by : (p : Plan) → to_plan_of b.core b.location k t (length code) (length locs) marks ≡ p
+      to_held_by : (p : Decision) → to_plan_of b.core b.location k t (length code) (length locs) marks ≡ p
           → (after (outcome_by b (commit_to p b.core b.location k code locs)).answer b).core.code
           ≤ length (commit_to p b.core b.location k code locs).code
-      to_held_by Idle e = within
-      to_held_by (Refuse r) e = within
-      to_held_by (Go a w s) e =
+      to_held_by (Ok None) e = within
+      to_held_by (Err r) e = within
+      to_held_by (Ok (Some (planned a w s))) e =
           let g = to_goes b.core b.location k t (length code) (length locs) marks s w a e in
           put_held g.here (jump_by w) [] w s w a g.goes
 
@@ -88,7 +88,7 @@ module _ (b : Builder) (k : ℕ) (code locs : List ℕ) (within : b.core.code �
       to_held = to_held_by (to_plan_of b.core b.location k t (length code) (length locs) marks) refl
 
 module _ (b : Builder) (code marks : List ℕ) (within : b.core.code ≤ length code) where
-  patch_place : (x : JumpLabel) (o w : ℕ) (a : Depth) → patch_plan_of b.core x (length code) marks ≡ Patching.Go a w o
+  patch_place : (x : JumpLabel) (o w : ℕ) (a : Option ℕ) → patch_plan_of b.core x (length code) marks ≡ Ok (Some (patching a w o))
       → o + 3 ≤ b.core.code
   unfolding patch_plan_of
   patch_place L.Dead o w a e = absurd (guard_never (markable b.core (length code) (length marks)) Unsound o w a e)
@@ -96,11 +96,11 @@ module _ (b : Builder) (code marks : List ℕ) (within : b.core.code ≤ length 
       let m = mark_in b.core.marks marks i in
       (patch_goes b.core o w a m (patch_guard_go (markable b.core (length code) (length marks)) Unsound (mark_plan_of m b.core) e).1).place
 
-  patch_held_by : (x : JumpLabel) (p : PatchPlan) → patch_plan_of b.core x (length code) marks ≡ p
+  patch_held_by : (x : JumpLabel) (p : PatchDecision) → patch_plan_of b.core x (length code) marks ≡ p
       → (after (commit_patch p b x code marks).answer b).core.code ≤ length (commit_patch p b x code marks).code
-  patch_held_by x Patching.Idle e = within
-  patch_held_by x (Patching.Refuse r) e = within
-  patch_held_by x (Patching.Go a w o) e = omega (arith, length_put (o + 1) (word_bytes w) code (omega (arith, patch_place x o w a e)))
+  patch_held_by x (Ok None) e = within
+  patch_held_by x (Err r) e = within
+  patch_held_by x (Ok (Some (patching a w o))) e = omega (arith, length_put (o + 1) (word_bytes w) code (omega (arith, patch_place x o w a e)))
 
   pub patch_held : (x : JumpLabel) → (after (patch_jump_of b x code marks).answer b).core.code
       ≤ length (patch_jump_of b x code marks).code

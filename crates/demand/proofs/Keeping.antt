@@ -1,5 +1,10 @@
 -- What calls keep: a refused call changes no table, and calls that emit nothing leave what the view looks at.
 -- Assumes nothing.
+use Rattle.builder.specs.Patch.{patching}
+use Rattle.builder.specs.Patch.{PatchDecision}
+use Rattle.builder.specs.Plan.{planned}
+use Rattle.builder.specs.Plan.{Decision}
+use Rattle.std.specs.Prelude.{Ok, Err, Some, None, Option}
 use mathlib.Core.Path.{◌≡◌, refl}
 use mathlib.Core.Bool.{Bool, ◌&&◌}
 use mathlib.Core.List.{List}
@@ -13,19 +18,9 @@ use Rattle.op.specs.declared.Refusal.TheVariants.{TooLarge, NamesHeld, OpenLabel
 use Rattle.op.specs.declared.Table.TheVariants.{Exceptions, Names, Starts}
 use Rattle.code.specs.Encode.{encode}
 use Rattle.code.specs.declared.HandlerKind.{HandlerKind}
-use Rattle.builder.specs.declared.Added.TheVariants as N
-use Rattle.builder.specs.declared.Answer.TheVariants.{Accepted, Refused}
 use Rattle.builder.specs.declared.Builder.{Builder}
-use Rattle.builder.specs.declared.Depth.{Depth}
-use Rattle.builder.specs.declared.Depth.TheVariants.{Dead, Live}
 use Rattle.builder.specs.declared.JumpLabel.{JumpLabel}
 use Rattle.builder.specs.declared.JumpTarget.{JumpTarget}
-use Rattle.builder.specs.declared.Jumped.TheVariants as J
-use Rattle.builder.specs.declared.patch.PatchPlan.{PatchPlan}
-use Rattle.builder.specs.declared.patch.PatchPlan.TheVariants as Patching
-use Rattle.builder.specs.declared.plan.Plan.{Plan}
-use Rattle.builder.specs.declared.plan.Plan.TheVariants.{Idle, Refuse, Go}
-use Rattle.builder.specs.declared.Targeted.TheVariants as G
 use Rattle.code.specs.Tables.{word_max, exception_cells, mark_cells, start_cells, within, room}
 use Rattle.builder.specs.Plan.{plan_of}
 use Rattle.builder.specs.Emission.{commit_of, emit_core, outcome_by, emit_named}
@@ -44,53 +39,53 @@ use Rattle.builder.specs.Names.{with_names, register_names_of, register_name_of,
 
 module _ (b : Builder) (r : Refusal) where
   module _ (k name : ℕ) (o : Operand) (ns code locs : List ℕ) where
-    emit_by : (p : Plan) → (outcome_by b (commit_of p b.core b.location (encode k o ns) code locs)).answer
-        ≡ Refused r
+    emit_by : (p : Decision) → (outcome_by b (commit_of p b.core b.location (encode k o ns) code locs)).answer
+        ≡ Err r
         → ((commit_of p b.core b.location (encode k o ns) code locs).code ≡ code)
         × ((commit_of p b.core b.location (encode k o ns) code locs).locations ≡ locs)
-    emit_by Idle e = (refl, refl)
-    emit_by (Refuse q) e = (refl, refl)
-    emit_by (Go a w s) e = (cc, cc)
+    emit_by (Ok None) e = (refl, refl)
+    emit_by (Err q) e = (refl, refl)
+    emit_by (Ok (Some (planned a w s))) e = (cc, cc)
 
-    pub emit_refused : (emit_named b k name o ns code locs).answer ≡ Refused r
+    pub emit_refused : (emit_named b k name o ns code locs).answer ≡ Err r
         → ((emit_named b k name o ns code locs).code ≡ code) × ((emit_named b k name o ns code locs).locations ≡ locs)
     unfolding emit_named emit_core
     emit_refused e = emit_by (plan_of b.core b.location k name o (length ns) (length code) (length locs)) e
 
   module _ (k : ℕ) (code locs marks : List ℕ) where
-    jump_by_lem : (p : Plan) → (commit_jump p b k code locs marks).answer ≡ J.Refused r
+    jump_by_lem : (p : Decision) → (commit_jump p b k code locs marks).answer ≡ Err r
         → ((commit_jump p b k code locs marks).code ≡ code) × ((commit_jump p b k code locs marks).locations ≡ locs)
         × ((commit_jump p b k code locs marks).marks ≡ marks)
-    jump_by_lem Idle e = (refl, refl, refl)
-    jump_by_lem (Refuse q) e = (refl, refl, refl)
-    jump_by_lem (Go a w s) e = (cc, cc, cc)
+    jump_by_lem (Ok None) e = (refl, refl, refl)
+    jump_by_lem (Err q) e = (refl, refl, refl)
+    jump_by_lem (Ok (Some (planned a w s))) e = (cc, cc, cc)
 
-    pub jump_refused : (emit_jump_of b k code locs marks).answer ≡ J.Refused r
+    pub jump_refused : (emit_jump_of b k code locs marks).answer ≡ Err r
         → ((emit_jump_of b k code locs marks).code ≡ code) × ((emit_jump_of b k code locs marks).locations ≡ locs)
         × ((emit_jump_of b k code locs marks).marks ≡ marks)
     unfolding emit_jump_of
     jump_refused e = jump_by_lem (jump_plan_of b.core b.location k (length code) (length locs) (length marks)) e
 
-    to_by : (p : Plan) → (outcome_by b (commit_to p b.core b.location k code locs)).answer ≡ Refused r
+    to_by : (p : Decision) → (outcome_by b (commit_to p b.core b.location k code locs)).answer ≡ Err r
         → ((commit_to p b.core b.location k code locs).code ≡ code)
         × ((commit_to p b.core b.location k code locs).locations ≡ locs)
-    to_by Idle e = (refl, refl)
-    to_by (Refuse q) e = (refl, refl)
-    to_by (Go a w s) e = (cc, cc)
+    to_by (Ok None) e = (refl, refl)
+    to_by (Err q) e = (refl, refl)
+    to_by (Ok (Some (planned a w s))) e = (cc, cc)
 
-    pub to_refused : (t : JumpTarget) → (emit_jump_to_of b k t code locs marks).answer ≡ Refused r
+    pub to_refused : (t : JumpTarget) → (emit_jump_to_of b k t code locs marks).answer ≡ Err r
         → ((emit_jump_to_of b k t code locs marks).code ≡ code) × ((emit_jump_to_of b k t code locs marks).locations ≡ locs)
     unfolding emit_jump_to_of jump_to_core
     to_refused t e = to_by (to_plan_of b.core b.location k t (length code) (length locs) marks) e
 
   module _ (l : JumpLabel) (code marks : List ℕ) where
-    patch_by : (p : PatchPlan) → (commit_patch p b l code marks).answer ≡ Refused r
+    patch_by : (p : PatchDecision) → (commit_patch p b l code marks).answer ≡ Err r
         → ((commit_patch p b l code marks).code ≡ code) × ((commit_patch p b l code marks).marks ≡ marks)
-    patch_by Patching.Idle e = (refl, refl)
-    patch_by (Patching.Refuse q) e = (refl, refl)
-    patch_by (Patching.Go a w o) e = (cc, cc)
+    patch_by (Ok None) e = (refl, refl)
+    patch_by (Err q) e = (refl, refl)
+    patch_by (Ok (Some (patching a w o))) e = (cc, cc)
 
-    pub patch_refused : (patch_jump_of b l code marks).answer ≡ Refused r
+    pub patch_refused : (patch_jump_of b l code marks).answer ≡ Err r
         → ((patch_jump_of b l code marks).code ≡ code) × ((patch_jump_of b l code marks).marks ≡ marks)
     unfolding patch_jump_of
     patch_refused e = patch_by (patch_plan_of b.core l (length code) marks) e
@@ -99,11 +94,11 @@ module _ (b : Builder) (r : Refusal) where
 
 module _ (b : Builder) (r : Refusal) (marks : List ℕ) where
   abbrev MarksKept : TargetOutcome → Type 0
-  MarksKept x = x.answer ≡ G.Refused r → x.marks ≡ marks
+  MarksKept x = x.answer ≡ Err r → x.marks ≡ marks
 
-  target_at_lem : (d : Depth) → MarksKept (target_at d b marks)
-  target_at_lem Dead = λ e. refl
-  target_at_lem (Live d) = either MarksKept (room mark_cells b.core.marks (length marks)) _ _ (λ e. cc) (λ e. refl)
+  target_at_lem : (d : Option ℕ) → MarksKept (target_at d b marks)
+  target_at_lem None = λ e. refl
+  target_at_lem (Some d) = either MarksKept (room mark_cells b.core.marks (length marks)) _ _ (λ e. cc) (λ e. refl)
 
   pub target_refused : MarksKept (target_of b marks)
   unfolding target_of
@@ -113,24 +108,24 @@ module _ (b : Builder) (r : Refusal) (marks : List ℕ) where
 
 -- a call with one table
 abbrev CellsKept : Refusal → List ℕ → Kept → Type 0
-CellsKept r cells k = k.answer ≡ Refused r → k.cells ≡ cells
+CellsKept r cells k = k.answer ≡ Err r → k.cells ≡ cells
 
 module _ (r : Refusal) (cells : List ℕ) where
   passing : (t : Bool) (q : Refusal) (k : Kept) → CellsKept r cells k → CellsKept r cells (unless t q cells k)
-  passing t q k h = either (CellsKept r cells) t k (kept (Refused q) cells) h (λ e. refl)
+  passing t q k h = either (CellsKept r cells) t k (kept (Err q) cells) h (λ e. refl)
 
-  accepting : (b : Builder) (new : List ℕ) → CellsKept r cells (kept (Accepted b) new)
+  accepting : (b : Builder) (new : List ℕ) → CellsKept r cells (kept (Ok b) new)
   accepting b new e = cc
 
-  pub new_kept : (told : Depth) → CellsKept r cells (new_of told cells)
+  pub new_kept : (told : Option ℕ) → CellsKept r cells (new_of told cells)
   unfolding new_of
-  new_kept Dead = accepting (fresh_at Dead 0) cells
-  new_kept (Live d) = passing (room start_cells 0 (length cells)) (Full Starts) _ (accepting _ _)
+  new_kept None = accepting (fresh_at None 0) cells
+  new_kept (Some d) = passing (room start_cells 0 (length cells)) (Full Starts) _ (accepting _ _)
 
   module _ (b : Builder) where
-    region_at_lem : (x : Depth) (d : ℕ) → CellsKept r cells (region_at x b d cells)
-    region_at_lem (Live e) d = λ q. refl
-    region_at_lem Dead d = passing (room start_cells b.starts (length cells)) (Full Starts) _ (accepting _ _)
+    region_at_lem : (x : Option ℕ) (d : ℕ) → CellsKept r cells (region_at x b d cells)
+    region_at_lem (Some e) d = λ q. refl
+    region_at_lem None d = passing (room start_cells b.starts (length cells)) (Full Starts) _ (accepting _ _)
 
     pub region_refused : (d : ℕ) → CellsKept r cells (region_of b d cells)
     unfolding region_of
@@ -169,22 +164,22 @@ module _ (r : Refusal) (cells : List ℕ) where
 -- other calls: what the view looks at stays
 
 unfoldable pub SameCore : Builder → Kept → Type 0
-SameCore b k = (n : Builder) → k.answer ≡ Accepted n → (n.core ≡ b.core) × (n.starts ≡ b.starts)
+SameCore b k = (n : Builder) → k.answer ≡ Ok n → (n.core ≡ b.core) × (n.starts ≡ b.starts)
 
 module _ (b : Builder) (cells : List ℕ) where
-  refusing : (q : Refusal) → SameCore b (kept (Refused q) cells)
+  refusing : (q : Refusal) → SameCore b (kept (Err q) cells)
   unfolding SameCore
   refusing q n e = (cc, cc)
 
   staying : (m : Builder) (new : List ℕ) → m.core ≡ b.core → m.starts ≡ b.starts
-      → SameCore b (kept (Accepted m) new)
+      → SameCore b (kept (Ok m) new)
   unfolding SameCore
   staying m new p q n e =
       let h : m ≡ n = cc in
       (rw h at p, rw h at q)
 
   over : (t : Bool) (q : Refusal) (k : Kept) → SameCore b k → SameCore b (unless t q cells k)
-  over t q k h = either (SameCore b) t k (kept (Refused q) cells) h (refusing q)
+  over t q k h = either (SameCore b) t k (kept (Err q) cells) h (refusing q)
 
   pub exception_same : (start end handler depth count : ℕ) (kind : HandlerKind)
       → SameCore b (add_exception_of b start end handler depth count kind cells)
@@ -218,7 +213,7 @@ module _ (b : Builder) (cells : List ℕ) where
 
 module _ (b : Builder) (value : ℕ) (cells : List ℕ) where
   abbrev ConstKept : Refusal → AddedKept → Type 0
-  ConstKept r k = k.answer ≡ N.Refused r → k.cells ≡ cells
+  ConstKept r k = k.answer ≡ Err r → k.cells ≡ cells
 
   pub const_refused : (r : Refusal) → ConstKept r (add_const_of b value cells)
   unfolding add_const_of
@@ -230,9 +225,9 @@ module _ (b : Builder) (value : ℕ) (cells : List ℕ) where
       (λ e. refl)
 
   abbrev ConstSame : AddedKept → Type 0
-  ConstSame k = (n : Builder) (i : ℕ) → k.answer ≡ N.Made n i → (n.core ≡ b.core) × (n.starts ≡ b.starts)
+  ConstSame k = (n : Builder) (i : ℕ) → k.answer ≡ Ok (n, i) → (n.core ≡ b.core) × (n.starts ≡ b.starts)
 
-  made_same : (m n : Builder) (j i : ℕ) → m.core ≡ b.core → m.starts ≡ b.starts → N.Made m j ≡ N.Made n i
+  made_same : (m n : Builder) (j i : ℕ) → m.core ≡ b.core → m.starts ≡ b.starts → Ok (m, j) ≡ Ok (n, i)
       → (n.core ≡ b.core) × (n.starts ≡ b.starts)
   made_same m n j i p q e =
       let h : m ≡ n = cc in

@@ -1,5 +1,8 @@
 -- The laws of the rules' instruction set, from the laws of `op` and `code`.
 -- Assumes nothing.
+use Rattle.op.specs.Effects.{by}
+use Rattle.op.specs.declared.Effect.{Effect}
+use Rattle.std.specs.Prelude.{Ok, Err, Result}
 use mathlib.Core.Path.{◌≡◌, refl}
 use mathlib.Core.Bool.{Bool, true, false, cond}
 use mathlib.Core.List.{List, [], ◌∷◌, ◌++◌}
@@ -17,15 +20,10 @@ use Rattle.op.specs.Depths.{deepest, landing, after_of, taken_depth_of, low_fall
 use Rattle.op.specs.Opcodes.{last_opcode}
 use Rattle.op.specs.Shapes.{shape_of, operand_shape}
 use Rattle.op.specs.Effects.{effect_of, taken_of}
-use Rattle.op.specs.declared.After.{After}
-use Rattle.op.specs.declared.After.TheVariants as A
-use Rattle.op.specs.declared.Effect.{Effect}
-use Rattle.op.specs.declared.Effect.TheVariants as E
 use Rattle.op.specs.declared.Operand.{Operand}
 use Rattle.op.specs.declared.Operand.TheVariants as O
 use Rattle.op.specs.declared.Refusal.{Refusal}
 use Rattle.op.specs.declared.Shape.TheVariants as S
-use Rattle.op.specs.declared.Shaped.TheVariants as P
 use Rattle.code.specs.Bytes.{unsigned}
 use Rattle.code.specs.Depths.{Leads}
 use Rattle.code.specs.Encode.{encode, Formed}
@@ -46,32 +44,32 @@ use Rattle.demand.proofs.Laws.{Laws}
 
 module _ (low : Refusal) (d e : ℕ) where
   by_tests : (s t : Bool) (x : ℕ) (p q : Refusal) → leb x deepest ≡ t
-      → cond s (cond t (A.Depth x) (A.Refused p)) (A.Refused q) ≡ A.Depth e → e ≤ 65535
+      → cond s (cond t (Ok x) (Err p)) (Err q) ≡ Ok e → e ≤ 65535
   by_tests true true x p q h k = let z : x ≡ e = cc in omega (arith, leb-true x deepest h)
   by_tests true false x p q h k = clash cc
   by_tests false t x p q h k = clash cc
 
-  pub landing_small : (x : Effect) → landing low d x ≡ A.Depth e → e ≤ 65535
+  pub landing_small : (x : Result Effect Refusal) → landing low d x ≡ Ok e → e ≤ 65535
   unfolding landing
-  landing_small (E.By up down) h = by_tests (leb down (d + up)) (leb (d + up - down) deepest) (d + up - down) _ _ refl h
-  landing_small (E.Refused r) h = clash cc
+  landing_small (Ok (by up down)) h = by_tests (leb down (d + up)) (leb (d + up - down) deepest) (d + up - down) _ _ refl h
+  landing_small (Err r) h = clash cc
 
   -- the depth does not hang on the refusal that is given below 0
   any_low : (s t : Bool) (x : ℕ) (p q q' : Refusal)
-      → cond s (cond t (A.Depth x) (A.Refused p)) (A.Refused q) ≡ A.Depth e
-      → cond s (cond t (A.Depth x) (A.Refused p)) (A.Refused q') ≡ A.Depth e
+      → cond s (cond t (Ok x) (Err p)) (Err q) ≡ Ok e
+      → cond s (cond t (Ok x) (Err p)) (Err q') ≡ Ok e
   any_low true t x p q q' h = h
   any_low false t x p q q' h = clash cc
 
   -- an effect that lands leads there as a change
-  pub leads_of : (x : Effect) → landing low d x ≡ A.Depth e → Leads d (change_of x) e
+  pub leads_of : (x : Result Effect Refusal) → landing low d x ≡ Ok e → Leads d (change_of x) e
   unfolding landing
-  leads_of (E.By up down) h = any_low (leb down (d + up)) (leb (d + up - down) deepest) (d + up - down) _ _ _ h
-  leads_of (E.Refused r) h = clash cc
+  leads_of (Ok (by up down)) h = any_low (leb down (d + up)) (leb (d + up - down) deepest) (d + up - down) _ _ _ h
+  leads_of (Err r) h = clash cc
 
-pub depth_is : (x : After) (e : ℕ) → in_range x ≡ some e → x ≡ A.Depth e
-depth_is (A.Depth d) e h = cc
-depth_is (A.Refused r) e h = clash cc
+pub depth_is : (x : Result ℕ Refusal) (e : ℕ) → in_range x ≡ some e → x ≡ Ok e
+depth_is (Ok d) e h = cc
+depth_is (Err r) e h = clash cc
 
 pub after_small : (d k : ℕ) (o : Operand) (e : ℕ) → in_range (after_of d k o) ≡ some e → e ≤ 65535
 after_small d k o e h = landing_small low_falling d e (effect_of k o) (depth_is (after_of d k o) e h)
@@ -92,7 +90,7 @@ pub record Valid (i : Instruction) : Type 0 where
   pub still : Still i.operand
 
 abbrev pub Jumps : ℕ → Type 0
-Jumps k = shape_of k ≡ P.Is S.Offset
+Jumps k = shape_of k ≡ Ok S.Offset
 
 -- the port's own table has the opcode of all that is well formed
 pub formed_known : {k : ℕ} {o : Operand} {ns : List ℕ} → Formed k o ns → k ≤ last_opcode

@@ -1,6 +1,7 @@
 -- What each call comes to, as a function: the answer and the world that its contract leaves no choice in
 -- (Contracts.antt has the law).
 -- Assumes nothing.
+use Rattle.std.specs.Prelude.{Some}
 use mathlib.Core.List.{[]}
 use Prim.Native.Nat.{◌%◌}
 use lib.ListN.{length}
@@ -8,7 +9,6 @@ use Rattle.op.specs.Chosen.{LoadGlobalCallable, CallBuiltinFunction, CallBuiltin
 use Rattle.op.specs.Opcodes.{RaiseUnboundLocal}
 use Rattle.op.specs.declared.Operand.TheVariants as O
 use Rattle.builder.specs.declared.Builder.{Builder}
-use Rattle.builder.specs.declared.Location.TheVariants.{Set}
 use Rattle.builder.specs.Emission.{load_op, load_operand, store_op, store_operand}
 use Rattle.builder.specs.Emission.{Outcome, emit_named, emit_of}
 use Rattle.builder.specs.Numbered.{numbered_of}
@@ -146,7 +146,7 @@ step (add_exception_entry start end handler d n kind) w =
 step (register_local_names ns) w = registers w (register_names_of w.state ns w.names)
 step (register_local_name slot name) w = registers w (register_name_of w.state slot name w.names)
 step (build fill) w = registers w (build_of w.state fill w.names w.marks)
-step (set_location r f) w = sets w (with_location w.state (Set r f))
+step (set_location r f) w = sets w (with_location w.state (Some (record { range = r; focus = f })))
 step current_offset w = sets w w.state
 step current_position w = sets w w.state
 step stack_depth w = sets w w.state

@@ -1,5 +1,6 @@
 -- The moves of the view where the used lengths are known, and what each table's store does to the view.
 -- Assumes nothing.
+use Rattle.std.specs.Prelude.{Ok, Some, None, Option}
 use mathlib.Core.Path.{◌≡◌, sym, ap, ◌∙◌}
 use mathlib.Core.Bool.{true}
 use mathlib.Core.List.{[], ◌∷◌, ◌++◌}
@@ -8,10 +9,7 @@ use Prim.Native.Nat.{ℕ, ◌+◌, ◌/◌, ◌%◌, ◌≤◌}
 use native.Mathlib.Omega.{arith}
 use lib.ListN.{length, set, get_elem?}
 use Rattle.op.specs.Depths.{after_of, taken_depth_of}
-use Rattle.op.specs.declared.After.TheVariants as A
 use Rattle.code.specs.Encode.{encode}
-use Rattle.builder.specs.declared.Depth.{Depth}
-use Rattle.builder.specs.declared.Depth.TheVariants.{Dead, Live}
 use Rattle.builder.specs.declared.JumpLabel.TheVariants as L
 use Rattle.builder.specs.declared.JumpTarget.{JumpTarget}
 use Rattle.builder.specs.declared.JumpTarget.TheVariants as T
@@ -26,9 +24,9 @@ use Rattle.demand.specs.History.{emit_jump_call, emit_jump_to_call, patch_jump_c
 use Rattle.demand.proofs.View.{labelled, jumped, patched, spotted, opened}
 
 module _ (v : View) where
-  pub labelled_at : (k d e t n p : ℕ) → length v.marks ≡ n → length v.code ≡ p → v.depth ≡ Live d
-      → after_of d k unpatched ≡ A.Depth e
-      → taken_depth_of d k ≡ A.Depth t
+  pub labelled_at : (k d e t n p : ℕ) → length v.marks ≡ n → length v.code ≡ p → v.depth ≡ Some d
+      → after_of d k unpatched ≡ Ok e
+      → taken_depth_of d k ≡ Ok t
       → Moved v (emit_jump_call k) (label (L.Row n))
       (record {
         code = v.code ++ encode k unpatched [];
@@ -39,8 +37,8 @@ module _ (v : View) where
   labelled_at k d e t n p en ep h f g = rw (← en, ← ep) (labelled d e t h f g)
 
   pub jumped_at : (k d e i o t p w : ℕ) (x : JumpTarget) → x ≡ T.Row i → length v.code ≡ p → w ≡ bits p o
-      → v.depth ≡ Live d → after_of d k (jump_by w) ≡ A.Depth e
-      → taken_depth_of d k ≡ A.Depth t → get_elem? v.marks i ≡ some (Target o t) → near p o ≡ true
+      → v.depth ≡ Some d → after_of d k (jump_by w) ≡ Ok e
+      → taken_depth_of d k ≡ Ok t → get_elem? v.marks i ≡ some (Target o t) → near p o ≡ true
       → Moved v (emit_jump_to_call k x) ok
       (record {
         code = v.code ++ encode k (jump_by w) [];
@@ -52,7 +50,7 @@ module _ (v : View) where
       let q : w ≡ bits (length v.code) o = ew ∙ ap (λ (y : ℕ). bits y o) (sym ep) in
       rw (ex, q) (jumped {k = k} d e i o t h (rw (← q) f) g m (rw ep c))
 
-  pub patched_at : (i o d p w : ℕ) (a : Depth) → a ≡ Live d → length v.code ≡ p → w ≡ bits o p
+  pub patched_at : (i o d p w : ℕ) (a : Option ℕ) → a ≡ Some d → length v.code ≡ p → w ≡ bits o p
       → get_elem? v.marks i ≡ some (Open o d) → d ≤ word_max → meets v.depth d ≡ true
       → near o p ≡ true → o + 3 ≤ p
       → Moved v (patch_jump_call (L.Row i)) ok
@@ -61,12 +59,12 @@ module _ (v : View) where
       let q : w ≡ bits o (length v.code) = ew ∙ ap (bits o) (sym ep) in
       rw (ea, q) (patched i o d m s h (rw ep c) (omega arith))
 
-  pub spotted_at : (d n p : ℕ) → length v.marks ≡ n → length v.code ≡ p → v.depth ≡ Live d
+  pub spotted_at : (d n p : ℕ) → length v.marks ≡ n → length v.code ≡ p → v.depth ≡ Some d
       → Moved v jump_target_call (target (T.Row n))
       (record { code = v.code; marks = v.marks ++ (Target p d ∷ []); starts = v.starts; depth = v.depth })
   spotted_at d n p en ep h = rw (← en, ← ep) (spotted d h)
 
-  pub opened_at : (d p : ℕ) → length v.code ≡ p → v.depth ≡ Dead
+  pub opened_at : (d p : ℕ) → length v.code ≡ p → v.depth ≡ None
       → Moved v (new_region d) ok
-      (record { code = v.code; marks = v.marks; starts = v.starts ++ ((p, d) ∷ []); depth = Live d })
+      (record { code = v.code; marks = v.marks; starts = v.starts ++ ((p, d) ∷ []); depth = Some d })
   opened_at d p ep h = rw (← ep) (opened d h)

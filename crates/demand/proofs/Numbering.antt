@@ -1,5 +1,7 @@
 -- Each call's kind is what its model emits: loads and stores by their slots, and the calls by number.
 -- Assumes nothing.
+use Rattle.builder.specs.declared.numbered.Instruction.{Instruction}
+use Rattle.std.specs.Prelude.{Some, None, Option}
 use mathlib.Core.Path.{◌≡◌, refl, ap}
 use mathlib.Core.Bool.{Bool, true, false, cond}
 use mathlib.Core.List.{List, [], ◌∷◌}
@@ -17,8 +19,6 @@ use Rattle.code.proofs.Twos.{signed_small}
 use Rattle.builder.specs.Emission.{load_op, load_operand, store_op, store_operand}
 use Rattle.builder.specs.Numbered.{below, emit_instruction, instruction_of, instructions, numbered_of}
 use Rattle.builder.specs.declared.Builder.{Builder}
-use Rattle.builder.specs.declared.numbered.Instruction.{Instruction}
-use Rattle.builder.specs.declared.numbered.Instruction.TheVariants.{Is, Nothing}
 use Rattle.demand.specs.History.{Call, emit, emit_jump_call, emit_jump_to_call, patch_jump_call, jump_target_call, new_region, other}
 use Rattle.demand.specs.Calls.{by_number, emit_numbered, fitting, kind_of, loads, naming, stores}
 use Rattle.demand.proofs.Machining.{Still}
@@ -73,9 +73,9 @@ store_kind slot = go (leb slot 255)
 
 -- the calls by number
 
-abbrev pub kind_by : List ℕ → Instruction → Call
-kind_by ns Nothing = other
-kind_by ns (Is k name o) = emit k o ns
+abbrev pub kind_by : List ℕ → Option Instruction → Call
+kind_by ns None = other
+kind_by ns (Some instruction) = emit instruction.opcode instruction.operand ns
 
 pub numbered_is : (builder : Builder) (call k a b c : ℕ) (ns code locations : List ℕ)
     → numbered_of builder call k a b c ns code locations
@@ -85,25 +85,25 @@ numbered_is builder call k a b c ns code locations = refl
 
 -- the two lists, the history's and the builder's, say the same line for line
 module _ (ns : List ℕ) where
-  abbrev Alike : List Call → List Instruction → Type 0
+  abbrev Alike : List Call → List (Option Instruction) → Type 0
   Alike [] [] = Unit {0}
   Alike [] (i ∷ is) = ⊥
   Alike (x ∷ xs) [] = ⊥
   Alike (x ∷ xs) (i ∷ is) = (naming ns x ≡ kind_by ns i) × Alike xs is
 
-  alike_at : (xs : List Call) (is : List Instruction) → Alike xs is → (n : ℕ)
-      → naming ns (get_or xs n other) ≡ kind_by ns (get_or is n Nothing)
+  alike_at : (xs : List Call) (is : List (Option Instruction)) → Alike xs is → (n : ℕ)
+      → naming ns (get_or xs n other) ≡ kind_by ns (get_or is n None)
   alike_at [] [] a n = refl
   alike_at [] (i ∷ is) a n = absurd a
   alike_at (x ∷ xs) [] a n = absurd a
   alike_at (x ∷ xs) (i ∷ is) a zero = a.0
   alike_at (x ∷ xs) (i ∷ is) a (suc n) = alike_at xs is a.1 n
 
-  fit : (m x : ℕ) (call : Call) (i : Instruction) → naming ns call ≡ kind_by ns i
+  fit : (m x : ℕ) (call : Call) (i : Option Instruction) → naming ns call ≡ kind_by ns i
       → naming ns (fitting m x call) ≡ kind_by ns (below m x i)
   fit m x call i e = go (ltb x m)
     where
-      go : (t : Bool) → naming ns (cond t call other) ≡ kind_by ns (cond t i Nothing)
+      go : (t : Bool) → naming ns (cond t call other) ≡ kind_by ns (cond t i None)
       go true = e
       go false = refl
 

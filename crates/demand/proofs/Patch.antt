@@ -1,5 +1,6 @@
 -- A patch keeps the invariant.
 -- Assumes nothing.
+use Rattle.std.specs.Prelude.{Some}
 use mathlib.Core.Path.{◌≡◌, refl, sym, ◌∙◌}
 use mathlib.Core.Bool.{Bool, true, false, cond}
 use mathlib.Core.Logic.{◌≢◌}
@@ -11,7 +12,6 @@ use lib.ListN.{set, get_elem?}
 use borrow.Author.Tests.{eqb-true, eqb-false, eq-eqb, ne_eqb}
 use Rattle.base.proofs.Bools.{clash}
 use Rattle.builder.specs.Marks.{near}
-use Rattle.builder.specs.declared.Depth.TheVariants.{Live}
 use Rattle.builder.specs.declared.marks.Mark.{Mark}
 use Rattle.builder.specs.declared.marks.Mark.TheVariants.{Open, Patched, Target}
 use Rattle.demand.specs.Isa.{Isa}
@@ -54,7 +54,7 @@ module _ (I : Isa) (k t : ℕ) where
       go false e q = (q, λ c. eqb-false m k e (let y : l ≡ m = cc in cc))
 
 module _ (I : Isa) (L : Laws I) (b : Book I) (g : Good I L b) (k o d : ℕ) (mk : get_elem? b.marks k ≡ some (Open o d))
-    (near : near o b.len ≡ true) (meets : (e : ℕ) → b.cur ≡ Live e → e ≡ d) where
+    (near : near o b.len ≡ true) (meets : (e : ℕ) → b.cur ≡ Some e → e ≡ d) where
   pub moves_patched : Moves I b (patched I b k o d)
   moves_patched = record {
     rows = λ r m. (
@@ -100,7 +100,7 @@ module _ (I : Isa) (L : Laws I) (b : Book I) (g : Good I L b) (k o d : ℕ) (mk 
             falls = x.falls;
             leaps = λ i u q. let s : i ≡ j = cc in (d, rw s wt.1);
             lands = λ i u f q n. let s : i ≡ j = cc in let v : b.len ≡ u = cc in
-                let n' : I.taken j e ≡ some f = rw s at n in let wt1 = wt.1 in let c : Live d ≡ Live f = cc in tip v c;
+                let n' : I.taken j e ≡ some f = rw s at n in let wt1 = wt.1 in let c : Some d ≡ Some f = cc in tip v c;
           }
 
   pub patch_good : Good I L (patched I b k o d)

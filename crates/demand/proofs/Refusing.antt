@@ -1,5 +1,10 @@
 -- A refused builder call changes neither state nor tables: specs/Refused.antt has the statements.
 -- Assumes nothing.
+use Rattle.builder.specs.declared.numbered.Instruction.{Instruction}
+use Rattle.builder.specs.declared.JumpTarget.{JumpTarget}
+use Rattle.builder.specs.declared.JumpLabel.{JumpLabel}
+use Rattle.builder.specs.declared.Builder.{Builder}
+use Rattle.std.specs.Prelude.{Ok, Err, Some, None, Result, Option}
 use mathlib.Core.Path.{◌≡◌, refl, sym, ap, ◌∙◌}
 use mathlib.Core.List.{List, []}
 use Prim.Native.Nat.{ℕ, ◌%◌}
@@ -22,16 +27,6 @@ use Rattle.builder.specs.Regions.{new_of, region_of}
 use Rattle.builder.specs.Constants.{add_const_of}
 use Rattle.builder.specs.Exceptions.{add_exception_of}
 use Rattle.builder.specs.Names.{register_names_of, register_name_of, build_of}
-use Rattle.builder.specs.declared.Added.{Added}
-use Rattle.builder.specs.declared.Added.TheVariants as N
-use Rattle.builder.specs.declared.Answer.{Answer}
-use Rattle.builder.specs.declared.Answer.TheVariants as R
-use Rattle.builder.specs.declared.numbered.Instruction.{Instruction}
-use Rattle.builder.specs.declared.numbered.Instruction.TheVariants as I
-use Rattle.builder.specs.declared.Jumped.{Jumped}
-use Rattle.builder.specs.declared.Jumped.TheVariants as J
-use Rattle.builder.specs.declared.Targeted.{Targeted}
-use Rattle.builder.specs.declared.Targeted.TheVariants as G
 use Rattle.demand.specs.History.{no}
 use Rattle.demand.specs.Calls.{emit', emit_u8, emit_i8, emit_u8_u8, emit_u16, emit_u16_u16, emit_u16_u8, emit_u16_u8_u8, emit_call_builtin_function, emit_call_builtin_type}
 use Rattle.demand.specs.Calls.{emit_call_function_kw, emit_call_attr_kw, emit_raise_unbound_local}
@@ -51,25 +46,25 @@ use Rattle.demand.proofs.Keeping.{const_refused}
 use Rattle.demand.proofs.Keeping.{new_kept}
 
 module _ (r : Refusal) where
-  by_answer : (a : Answer) → given a ≡ no r → a ≡ R.Refused r
-  by_answer (R.Accepted b) e = clash cc
-  by_answer (R.Refused q) e = cc
+  by_answer : (a : Result Builder Refusal) → given a ≡ no r → a ≡ Err r
+  by_answer (Ok b) e = clash cc
+  by_answer (Err q) e = cc
 
-  by_jump : (a : Jumped) → given_jump a ≡ no r → a ≡ J.Refused r
-  by_jump (J.Made b l) e = clash cc
-  by_jump (J.Refused q) e = cc
+  by_jump : (a : Result (Builder × JumpLabel) Refusal) → given_jump a ≡ no r → a ≡ Err r
+  by_jump (Ok (b, l)) e = clash cc
+  by_jump (Err q) e = cc
 
-  by_target : (a : Targeted) → given_target a ≡ no r → a ≡ G.Refused r
-  by_target (G.Made b l) e = clash cc
-  by_target (G.Refused q) e = cc
+  by_target : (a : Result (Builder × JumpTarget) Refusal) → given_target a ≡ no r → a ≡ Err r
+  by_target (Ok (b, l)) e = clash cc
+  by_target (Err q) e = cc
 
-  by_const : (a : Added) → given_const a ≡ no r → a ≡ N.Refused r
-  by_const (N.Made b i) e = clash cc
-  by_const (N.Refused q) e = cc
+  by_const : (a : Result (Builder × ℕ) Refusal) → given_const a ≡ no r → a ≡ Err r
+  by_const (Ok (b, i)) e = clash cc
+  by_const (Err q) e = cc
 
   module _ (w : World) where
     emit_same : (x : Outcome) → given x.answer ≡ no r
-        → (x.answer ≡ R.Refused r → (x.code ≡ w.code) × (x.locations ≡ w.locations)) → (emits w x).left ≡ w
+        → (x.answer ≡ Err r → (x.code ≡ w.code) × (x.locations ≡ w.locations)) → (emits w x).left ≡ w
     emit_same x e f = let a = by_answer x.answer e in rw (a, (f a).0, (f a).1) refl
 
     emission_same : (k name : ℕ) (o : Operand) (ns : List ℕ)
@@ -78,11 +73,11 @@ module _ (r : Refusal) where
     emission_same k name o ns e = emit_same (emit_named w.state k name o ns w.code w.locations) e
         (emit_refused w.state r k name o ns w.code w.locations)
 
-    numbered_same : (ns : List ℕ) (i : Instruction)
+    numbered_same : (ns : List ℕ) (i : Option Instruction)
         → given (emit_instruction i w.state ns w.code w.locations).answer ≡ no r
         → (emits w (emit_instruction i w.state ns w.code w.locations)).left ≡ w
-    numbered_same ns I.Nothing e = refl
-    numbered_same ns (I.Is k name o) e = emission_same k name o ns e
+    numbered_same ns None e = refl
+    numbered_same ns (Some (record { opcode = k; name = name; operand = o })) e = emission_same k name o ns e
 
     step_same : (c : PublicCall) → (step c w).answer ≡ no r → (step c w).left ≡ w
     step_same (emit' k) e = emission_same k 0 O.None [] e
@@ -151,5 +146,5 @@ refused_same c w w' r m =
 
 pub new_refused : NewRefused
 new_refused told κs entry exit r k =
-    let a : (new_of told entry.now).answer ≡ R.Refused r = sym (ap (λ (x : Kept). x.answer) k) in
+    let a : (new_of told entry.now).answer ≡ Err r = sym (ap (λ (x : Kept). x.answer) k) in
     ap (λ (x : Kept). x.cells) k ∙ new_kept r entry.now told a

@@ -1,6 +1,8 @@
 -- Rows in their bytes: where no jump waits, each row's instruction stands at its offset, and reading meets the rows,
 -- the end and no fault.
 -- Assumes nothing.
+use Rattle.code.specs.Decode.{instr}
+use Rattle.std.specs.Prelude.{Ok, Some}
 use mathlib.Core.Path.{◌≡◌, refl, sym, ap, ◌∙◌}
 use mathlib.Core.List.Memᴰ.{head as mhead}
 use mathlib.Core.List.{List, [], ◌∷◌, ◌++◌, map, append_assoc, Memᴰ as Mem}
@@ -16,7 +18,6 @@ use Rattle.base.proofs.Bools.{clash}
 use Rattle.op.specs.Opcodes.{last_opcode}
 use Rattle.op.specs.Depths.{after_of}
 use Rattle.op.specs.Effects.{dead_maker}
-use Rattle.op.specs.declared.After.TheVariants as A
 use Rattle.op.specs.declared.Refusal.{Refusal}
 use Rattle.code.specs.Decode.{decode}
 use Rattle.code.specs.Depths.{Stands, Place, Faulty, Rising}
@@ -24,7 +25,6 @@ use Rattle.code.specs.Encode.{encode, Formed}
 use Rattle.code.specs.Flow.{flow_by}
 use Rattle.code.specs.Reading.{Instruction, Spot, Read, before, instructions_from, instructions_in, places_in}
 use Rattle.code.specs.declared.Flow.{Flow}
-use Rattle.code.specs.declared.Step.TheVariants.{Instr}
 use Rattle.code.proofs.Moving.{flow_op}
 use Rattle.code.proofs.Inverse.{decode_encode}
 use Rattle.code.proofs.Instructions.{instructions_step}
@@ -54,7 +54,7 @@ said_bytes o (leap j (waits l)) v = absurd v
 said_bytes o (leap j (to t)) v = jump_bytes o t v.1 j
 
 pub said_net : (o : ℕ) (w : What isa) (d e : ℕ) → net isa w d ≡ some e
-    → after_of d (said o w).opcode (said o w).operand ≡ A.Depth e
+    → after_of d (said o w).opcode (said o w).operand ≡ Ok e
 said_net o (one i) d e h = depth_is _ e h
 said_net o (leap j (waits l)) d e h = depth_is _ e h
 said_net o (leap j (to t)) d e h = jump_net d j _ (pos 0) ∙ depth_is _ e h
@@ -69,7 +69,7 @@ abbrev pub flow_at : ℕ → ℕ → What isa → Flow
 flow_at n o w = flow_by (o + size isa w) n (said o w).opcode (said o w).operand (size isa w)
 
 decode_row : (o : ℕ) (w : What isa) → Closed isa laws o w → (rest : List ℕ)
-    → decode last_opcode o (bytes_at isa o w ++ rest) ≡ Instr (said o w).opcode (said o w).operand (size isa w)
+    → decode last_opcode o (bytes_at isa o w ++ rest) ≡ Ok (Some (instr (said o w).opcode (said o w).operand (size isa w)))
 decode_row o w v rest =
     let b = said_bytes o w v in
     let d = decode_encode last_opcode (said o w).opcode (said o w).operand (said o w).names rest

@@ -1,5 +1,8 @@
 -- Each public call, made as its promise says: it moves the view, and keeps the used parts within the tables.
 -- Assumes nothing.
+use Rattle.builder.specs.declared.numbered.Instruction.{Instruction}
+use Rattle.op.specs.declared.Refusal.{Refusal}
+use Rattle.std.specs.Prelude.{Ok, Err, Some, None, Result, Option}
 use mathlib.Core.Path.{◌≡◌, refl}
 use mathlib.Core.List.{List, []}
 use Prim.Native.Nat.{ℕ, ◌*◌, ◌%◌, ◌≤◌}
@@ -14,19 +17,12 @@ use Rattle.code.specs.Tables.{start_cells}
 use Rattle.builder.specs.Emission.{load_op, load_operand, store_op, store_operand}
 use Rattle.builder.specs.Emission.{emit_named}
 use Rattle.builder.specs.Numbered.{emit_instruction, instruction_of}
-use Rattle.builder.specs.declared.numbered.Instruction.{Instruction}
-use Rattle.builder.specs.declared.numbered.Instruction.TheVariants as I
 use Rattle.builder.specs.State.{Kept}
 use Rattle.builder.specs.Constants.{add_const_of}
 use Rattle.builder.specs.Exceptions.{add_exception_of}
 use Rattle.builder.specs.Names.{register_names_of, register_name_of, build_of}
 use Rattle.builder.specs.Locations.{with_location}
-use Rattle.builder.specs.declared.Added.{Added}
-use Rattle.builder.specs.declared.Added.TheVariants as N
-use Rattle.builder.specs.declared.Answer.{Answer}
-use Rattle.builder.specs.declared.Answer.TheVariants as R
 use Rattle.builder.specs.declared.Builder.{Builder}
-use Rattle.builder.specs.declared.Location.TheVariants.{Set}
 use Rattle.demand.specs.History.{Call, emit, other, Given, no, ok}
 use Rattle.demand.specs.Calls.{emit', emit_u8, emit_i8, emit_u8_u8, emit_u16, emit_u16_u16, emit_u16_u8, emit_u16_u8_u8, emit_call_builtin_function, emit_call_builtin_type}
 use Rattle.demand.specs.Calls.{emit_call_function_kw, emit_call_attr_kw, emit_raise_unbound_local}
@@ -99,13 +95,13 @@ pub record Moving (w : World) (c : Call) (t : Turn) : Type 0 where
   pub moves : Moved (view w) c t.answer (view t.left)
   pub within : Within t.left
 
-given_idle : (a : Answer) (v : View) → Moved v other (given a) v
-given_idle (R.Accepted b) v = idle
-given_idle (R.Refused r) v = refused
+given_idle : (a : Result Builder Refusal) (v : View) → Moved v other (given a) v
+given_idle (Ok b) v = idle
+given_idle (Err r) v = refused
 
-const_idle : (a : Added) (v : View) → Moved v other (given_const a) v
-const_idle (N.Made b i) v = idle
-const_idle (N.Refused r) v = refused
+const_idle : (a : Result (Builder × ℕ) Refusal) (v : View) → Moved v other (given_const a) v
+const_idle (Ok (b, i)) v = idle
+const_idle (Err r) v = refused
 
 module _ (w : World) (h : Within w) where
   -- an emitting call
@@ -135,12 +131,12 @@ module _ (w : World) (h : Within w) where
       (given_idle x.answer)
 
   -- the instruction that a number comes to
-  numbered : (ns : List ℕ) (i : Instruction)
+  numbered : (ns : List ℕ) (i : Option Instruction)
       → Moving w (kind_by ns i) (emits w (emit_instruction i w.state ns w.code w.locations))
-  numbered ns I.Nothing =
+  numbered ns None =
       stays w.state (no WrongShape) w.locations w.exceptions w.constants w.names (refl, refl)
       (λ v. refused)
-  numbered ns (I.Is k name o) = emission k name o ns
+  numbered ns (Some (record { opcode = k; name = name; operand = o })) = emission k name o ns
 
   pub moving : (c : PublicCall) → Moving w (kind_of c) (step c w)
   moving (emit' k) = emission k 0 O.None []
@@ -215,7 +211,7 @@ module _ (w : World) (h : Within w) where
       let x = build_of w.state fill w.names w.marks in
       keeps x w.locations w.exceptions w.constants x.cells
       (build_same w.state w.names fill w.marks)
-  moving (set_location r f) = stays (with_location w.state (Set r f)) ok w.locations w.exceptions
+  moving (set_location r f) = stays (with_location w.state (Some (record { range = r; focus = f }))) ok w.locations w.exceptions
       w.constants w.names (refl, refl) (λ v. idle)
   moving current_offset =
       stays w.state ok w.locations w.exceptions w.constants w.names (refl, refl) (λ v. idle)

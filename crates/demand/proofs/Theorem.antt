@@ -1,6 +1,6 @@
 -- Demand 3, proved: specs/Demand.antt has the statement.
 -- Assumes nothing.
-use Rattle.std.specs.Prelude.{Result}
+use Rattle.std.specs.Prelude.{Result, Ok, Some, None, Option}
 use mathlib.Core.Path.{◌≡◌, sym, ap, ◌∙◌}
 use mathlib.Core.List.{List, Memᴰ as Mem}
 use Prim.Native.Nat.{ℕ, ◌≤◌, ◌<◌}
@@ -13,9 +13,6 @@ use Rattle.op.specs.declared.Refusal.{Refusal}
 use Rattle.builder.specs.State.{Kept, kept}
 use Rattle.builder.specs.Regions.{new_of}
 use Rattle.code.specs.Tables.{code_limit}
-use Rattle.builder.specs.declared.Answer.TheVariants.{Accepted}
-use Rattle.builder.specs.declared.Depth.{Depth}
-use Rattle.builder.specs.declared.Depth.TheVariants.{Dead, Live}
 use Rattle.checker.specs.declared.Assignment.{Assignment}
 use Rattle.checker.specs.Promise.{Promise}
 use Rattle.demand.specs.Machine.{isa}
@@ -81,15 +78,15 @@ finish w w' h i t B =
           (rw (code.holds, starts.holds, B.state, B.code, B.starts) at k)));
     }
 
-small : (told : Depth) → InDepth told → Small told
-small Dead f = tt
-small (Live d) f = omega arith
+small : (told : Option ℕ) → InDepth told → Small told
+small None f = tt
+small (Some d) f = omega arith
 
 -- Demand 3
 pub demand_3 : Demanded
 demand_3 told w F x T fill w' m =
-    let e : kept (Accepted w.state) F.exit.now ≡ new_of told F.entry.now = F.keeps in
-    let a : (new_of told F.entry.now).answer ≡ Accepted w.state = sym (ap (λ (k : Kept). k.answer) e) in
+    let e : kept (Ok w.state) F.exit.now ≡ new_of told F.entry.now = F.keeps in
+    let a : (new_of told F.entry.now).answer ≡ Ok w.state = sym (ap (λ (k : Kept). k.answer) e) in
     let s : (new_of told F.entry.now).cells ≡ w.starts = sym (ap (λ (k : Kept). k.cells) e) ∙ F.starts in
     let n = new_within told F.entry.now w.state a in
     let within : Within w = record { code = omega (arith, n.0); starts = rw s at n.1 } in

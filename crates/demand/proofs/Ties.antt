@@ -1,5 +1,6 @@
 -- The view and the history go together: each move of the view keeps what ties them.
 -- Assumes nothing.
+use Rattle.std.specs.Prelude.{Ok, Some, None}
 use mathlib.Core.Path.{◌≡◌, refl, sym, ap, ◌∙◌}
 use mathlib.Core.Bool.{Bool, true, false, cond}
 use mathlib.Core.Logic.{◌⊎◌, inl, inr}
@@ -14,7 +15,6 @@ use borrow.Author.Tests.{eq-eqb, ne_eqb, eqb-true}
 use Rattle.base.proofs.Bools.{clash}
 use Rattle.op.specs.Depths.{after_of, taken_depth_of}
 use Rattle.op.specs.Effects.{dead_maker}
-use Rattle.op.specs.declared.After.TheVariants as A
 use Rattle.op.specs.declared.Operand.{Operand}
 use Rattle.op.specs.declared.Refusal.{Refusal}
 use Rattle.code.specs.Decode.{names_in}
@@ -23,8 +23,6 @@ use Rattle.builder.specs.Forward.{unpatched}
 use Rattle.builder.specs.Back.{jump_by}
 use Rattle.builder.specs.Marks.{near, bits, meets}
 use Rattle.builder.specs.Plan.{behind}
-use Rattle.builder.specs.declared.Depth.{Depth}
-use Rattle.builder.specs.declared.Depth.TheVariants.{Dead, Live}
 use Rattle.builder.specs.declared.JumpLabel.TheVariants as L
 use Rattle.builder.specs.declared.JumpTarget.{JumpTarget}
 use Rattle.builder.specs.declared.JumpTarget.TheVariants as T
@@ -73,7 +71,7 @@ tied_end v h t = ap (λ (l : List ℕ). length l) t.code
 
 -- a new builder
 
-empty_good : Good isa laws (record { rows = []; len = 0; cur = Dead; starts = []; marks = [] })
+empty_good : Good isa laws (record { rows = []; len = 0; cur = None; starts = []; marks = [] })
 empty_good = record {
   chain = refl;
   each = λ r m. absurd (Memᴰ.not-nil m);
@@ -84,16 +82,16 @@ empty_good = record {
   spots = λ k o d e. clash cc;
 }
 
-abbrev pub fresh : Depth → View
+abbrev pub fresh : Option ℕ → View
 fresh told = record { code = []; marks = []; starts = born told; depth = told }
 
-abbrev pub Small : Depth → Type 0
-Small Dead = Unit {0}
-Small (Live d) = d ≤ 65535
+abbrev pub Small : Option ℕ → Type 0
+Small None = Unit {0}
+Small (Some d) = d ≤ 65535
 
-pub fresh_tied : (told : Depth) → Small told → Tied (fresh told) (blank told)
-fresh_tied Dead s = record { good = empty_good; code = refl; targets = λ k o d e. clash cc; starts = refl }
-fresh_tied (Live d) s = record {
+pub fresh_tied : (told : Option ℕ) → Small told → Tied (fresh told) (blank told)
+fresh_tied None s = record { good = empty_good; code = refl; targets = λ k o d e. clash cc; starts = refl }
+fresh_tied (Some d) s = record {
   good = region_good isa laws _ empty_good d refl s;
   code = refl;
   targets = λ k o u e. clash cc;
@@ -106,7 +104,7 @@ after_behind : (k e : ℕ) (x : Option ℕ) → x ≡ some e → after isa (dead
 unfolding behind
 after_behind k e x h = rw h (go (dead_maker k))
   where
-    go : (b : Bool) → after isa b (some e) ≡ cond b Dead (Live e)
+    go : (b : Bool) → after isa b (some e) ≡ cond b None (Some e)
     go true = refl
     go false = refl
 
@@ -117,11 +115,11 @@ unpatched_bytes k = refl
 to_bytes : (k p o : ℕ) → near p o ≡ true → encode k (jump_by (bits p o)) [] ≡ k ∷ bits p o % 256 ∷ bits p o / 256 ∷ []
 to_bytes k p o c = rw (displaced p o c) (jump_bytes p o c k)
 
-meets_is : (x : Depth) (d e : ℕ) → meets x d ≡ true → x ≡ Live e → e ≡ d
-meets_is Dead d e h l = clash cc
-meets_is (Live f) d e h l = let q = eqb-true f d h in let p : f ≡ e = cc in cc
+meets_is : (x : Option ℕ) (d e : ℕ) → meets x d ≡ true → x ≡ Some e → e ≡ d
+meets_is None d e h l = clash cc
+meets_is (Some f) d e h l = let q = eqb-true f d h in let p : f ≡ e = cc in cc
 
-trim : (rs : List (Row isa)) (n : ℕ) (c : Depth) (ss : List (ℕ × ℕ)) (ms : List Mark)
+trim : (rs : List (Row isa)) (n : ℕ) (c : Option ℕ) (ss : List (ℕ × ℕ)) (ms : List Mark)
     → Good isa laws (record { rows = rs; len = n; cur = c; starts = ss ++ []; marks = ms })
     → Good isa laws (record { rows = rs; len = n; cur = c; starts = ss; marks = ms })
 trim rs n c ss ms g = rw append-nil at g
@@ -136,7 +134,7 @@ module _ (v : View) (h : History) (t : Tied v h) where
         marks = v.marks ++ ms;
         starts = v.starts;
         depth = after isa (stops isa w) (net isa w d);
-      }) (add h (Live d) w)
+      }) (add h (Some d) w)
   added d w ms g n = record {
     good = trim _ _ _ v.starts (v.marks ++ ms) g;
     code = rw (t.code, bytes_append) (ap (λ (l : List ℕ). bytes_of isa h.rows ++ l) (sym (append-nil _)));
@@ -152,8 +150,8 @@ module _ (v : View) (h : History) (t : Tied v h) where
   no_target : (i o u : ℕ) → get_elem? [] i ≡ some (Target o u) → ⊥
   no_target i o u q = clash cc
 
-  tied_emit : (k : ℕ) (o : Operand) (ns : List ℕ) (d e : ℕ) → v.depth ≡ Live d → SignsFit o × Still o
-      → names_in o ≡ length ns → after_of d k o ≡ A.Depth e
+  tied_emit : (k : ℕ) (o : Operand) (ns : List ℕ) (d e : ℕ) → v.depth ≡ Some d → SignsFit o × Still o
+      → names_in o ≡ length ns → after_of d k o ≡ Ok e
       → Tied (record { code = v.code ++ encode k o ns; marks = v.marks; starts = v.starts; depth = behind k e })
       (add h v.depth (one (instruction k o ns)))
   tied_emit k o ns d e l s c f =
@@ -162,7 +160,7 @@ module _ (v : View) (h : History) (t : Tied v h) where
       (append_good isa laws (book v h) t.good d l (instruction k o ns) (record { formed = record { shape = after_shape d k o e f; signs = s.0; count = c }; still = s.1 }) e n)
       no_target))
 
-  tied_label : (k d e u : ℕ) → v.depth ≡ Live d → after_of d k unpatched ≡ A.Depth e → taken_depth_of d k ≡ A.Depth u
+  tied_label : (k d e u : ℕ) → v.depth ≡ Some d → after_of d k unpatched ≡ Ok e → taken_depth_of d k ≡ Ok u
       → Tied (record {
         code = v.code ++ encode k unpatched [];
         marks = v.marks ++ (Open (length v.code) u ∷ []);
@@ -180,8 +178,8 @@ module _ (v : View) (h : History) (t : Tied v h) where
       none zero o f q = clash cc
       none (suc i) o f q = clash cc
 
-  tied_jump : (k i d e o u : ℕ) → v.depth ≡ Live d → after_of d k (jump_by (bits (length v.code) o)) ≡ A.Depth e
-      → taken_depth_of d k ≡ A.Depth u
+  tied_jump : (k i d e o u : ℕ) → v.depth ≡ Some d → after_of d k (jump_by (bits (length v.code) o)) ≡ Ok e
+      → taken_depth_of d k ≡ Ok u
       → get_elem? v.marks i ≡ some (Target o u) → near (length v.code) o ≡ true
       → Tied (record {
         code = v.code ++ encode k (jump_by (bits (length v.code) o)) [];
@@ -197,7 +195,7 @@ module _ (v : View) (h : History) (t : Tied v h) where
       (rw (append-nil v.marks) at (added d (leap k (to o)) []
       (jump_good isa laws (book v h) t.good d l k o u c' e n (ap in_range g) (t.good.spots i o u m)) no_target))
 
-  tied_target : (d : ℕ) → v.depth ≡ Live d
+  tied_target : (d : ℕ) → v.depth ≡ Some d
       → Tied (record {
         code = v.code;
         marks = v.marks ++ (Target (length v.code) d ∷ []);
@@ -223,12 +221,12 @@ module _ (v : View) (h : History) (t : Tied v h) where
           nth_lt v.marks k e in rw (ne_eqb (length v.marks) k (λ c. omega arith), look) (t.targets k o u e)
       go k o u (inr q) = let r = only o u q.0 k q.1 q.2 in rw (eq-eqb (length v.marks) k r.0, look) r.1
 
-  tied_region : (d : ℕ) → v.depth ≡ Dead → d ≤ 65535
+  tied_region : (d : ℕ) → v.depth ≡ None → d ≤ 65535
       → Tied (record {
         code = v.code;
         marks = v.marks;
         starts = v.starts ++ ((length v.code, d) ∷ []);
-        depth = Live d;
+        depth = Some d;
       }) (start_here h d)
   tied_region d l s = rw (tied_end v h t) (record {
     good = rw (append-nil h.rows, append-nil v.marks) at (region_good isa laws (book v h) t.good d l s);
@@ -239,7 +237,7 @@ module _ (v : View) (h : History) (t : Tied v h) where
 
   tied_patch : (k o u : ℕ) → get_elem? v.marks k ≡ some (Open o u) → meets v.depth u ≡ true
       → near o (length v.code) ≡ true
-      → Tied (record { code = set (set v.code (o + 1) (bits o (length v.code) % 256)) (o + 2) (bits o (length v.code) / 256); marks = set v.marks k (Patched o u); starts = v.starts; depth = Live u })
+      → Tied (record { code = set (set v.code (o + 1) (bits o (length v.code) % 256)) (o + 2) (bits o (length v.code) / 256); marks = set v.marks k (Patched o u); starts = v.starts; depth = Some u })
       (patch_here h k)
   tied_patch k o u m ne c = rw (tied_end v h t) (record {
     good = patch_good isa laws (book v h) t.good k o u m (rw (tied_end v h t) at c)
@@ -263,10 +261,10 @@ module _ (v : View) (h : History) (t : Tied v h) where
           let e' : get_elem? (set v.marks k (Patched o u)) k ≡ some (Target p f) = rw c at e in
           clash cc)) ∙ e
 
-  tied_dead : (w : What isa) → v.depth ≡ Dead → Tied v (add h v.depth w)
+  tied_dead : (w : What isa) → v.depth ≡ None → Tied v (add h v.depth w)
   tied_dead w e = let q : add h v.depth w ≡ h = rw e in rw q t
 
-  tied_dead_to : (k : ℕ) (x : JumpTarget) → v.depth ≡ Dead → Tied v (seen h v.depth (emit_jump_to_call k x) ok)
+  tied_dead_to : (k : ℕ) (x : JumpTarget) → v.depth ≡ None → Tied v (seen h v.depth (emit_jump_to_call k x) ok)
   tied_dead_to k T.Dead e = t
   tied_dead_to k (T.Row i) e = tied_dead (leap k (to (look h.targets i))) e
 

@@ -1,5 +1,6 @@
 -- What the theorem looks at of the state and the lent tables, and how a call moves it.
 -- Assumes nothing.
+use Rattle.std.specs.Prelude.{Ok, Some, None, Option}
 use mathlib.Core.Path.{◌≡◌}
 use mathlib.Core.Bool.{true}
 use mathlib.Core.List.{List, [], ◌∷◌, ◌++◌}
@@ -7,14 +8,11 @@ use mathlib.Core.Option.{some}
 use Prim.Native.Nat.{ℕ, zero, suc, ◌+◌, ◌*◌, ◌/◌, ◌%◌, ◌≤◌}
 use lib.ListN.{length, take, get_or, set, get_elem?}
 use Rattle.op.specs.Depths.{after_of, taken_depth_of}
-use Rattle.op.specs.declared.After.TheVariants as A
 use Rattle.op.specs.declared.Operand.{Operand}
 use Rattle.op.specs.declared.Refusal.{Refusal}
 use Rattle.code.specs.Decode.{names_in}
 use Rattle.code.specs.Encode.{encode}
 use Rattle.builder.specs.declared.Builder.{Builder}
-use Rattle.builder.specs.declared.Depth.{Depth}
-use Rattle.builder.specs.declared.Depth.TheVariants.{Dead, Live}
 use Rattle.builder.specs.declared.JumpLabel.TheVariants as L
 use Rattle.builder.specs.declared.JumpTarget.{JumpTarget}
 use Rattle.builder.specs.declared.JumpTarget.TheVariants as T
@@ -42,7 +40,7 @@ pub record View : Type 0 where
   pub code : List ℕ
   pub marks : List Mark
   pub starts : List (ℕ × ℕ)
-  pub depth : Depth
+  pub depth : Option ℕ
 
 abbrev pub view_of : Builder → List ℕ → List ℕ → List ℕ → View
 view_of b code marks starts = record {
@@ -56,16 +54,16 @@ view_of b code marks starts = record {
 pub data Moved (v : View) : Call → Given → View → Type 0 where
   refused : {c : Call} {r : Refusal} → Moved v c (no r) v
   idle : Moved v other ok v
-  dead_emit : {k : ℕ} {o : Operand} {ns : List ℕ} → v.depth ≡ Dead → Moved v (emit k o ns) ok v
-  dead_jump : {k : ℕ} → v.depth ≡ Dead → Moved v (emit_jump_call k) (label L.Dead) v
-  dead_to : {k : ℕ} {t : JumpTarget} → v.depth ≡ Dead → Moved v (emit_jump_to_call k t) ok v
+  dead_emit : {k : ℕ} {o : Operand} {ns : List ℕ} → v.depth ≡ None → Moved v (emit k o ns) ok v
+  dead_jump : {k : ℕ} → v.depth ≡ None → Moved v (emit_jump_call k) (label L.Dead) v
+  dead_to : {k : ℕ} {t : JumpTarget} → v.depth ≡ None → Moved v (emit_jump_to_call k t) ok v
   dead_patch : Moved v (patch_jump_call L.Dead) ok v
-  dead_target : v.depth ≡ Dead → Moved v jump_target_call (target T.Dead) v
-  emitted : {k : ℕ} {o : Operand} {ns : List ℕ} (d e : ℕ) → v.depth ≡ Live d → names_in o ≡ length ns → length ns ≤ 255
-      → after_of d k o ≡ A.Depth e
+  dead_target : v.depth ≡ None → Moved v jump_target_call (target T.Dead) v
+  emitted : {k : ℕ} {o : Operand} {ns : List ℕ} (d e : ℕ) → v.depth ≡ Some d → names_in o ≡ length ns → length ns ≤ 255
+      → after_of d k o ≡ Ok e
       → Moved v (emit k o ns) ok
       (record { code = v.code ++ encode k o ns; marks = v.marks; starts = v.starts; depth = behind k e })
-  labelled : {k : ℕ} (d e t : ℕ) → v.depth ≡ Live d → after_of d k unpatched ≡ A.Depth e → taken_depth_of d k ≡ A.Depth t
+  labelled : {k : ℕ} (d e t : ℕ) → v.depth ≡ Some d → after_of d k unpatched ≡ Ok e → taken_depth_of d k ≡ Ok t
       → Moved v (emit_jump_call k) (label (L.Row (length v.marks)))
       (record {
         code = v.code ++ encode k unpatched [];
@@ -73,8 +71,8 @@ pub data Moved (v : View) : Call → Given → View → Type 0 where
         starts = v.starts;
         depth = behind k e;
       })
-  jumped : {k : ℕ} (d e i o t : ℕ) → v.depth ≡ Live d → after_of d k (jump_by (bits (length v.code) o)) ≡ A.Depth e
-      → taken_depth_of d k ≡ A.Depth t
+  jumped : {k : ℕ} (d e i o t : ℕ) → v.depth ≡ Some d → after_of d k (jump_by (bits (length v.code) o)) ≡ Ok e
+      → taken_depth_of d k ≡ Ok t
       → get_elem? v.marks i ≡ some (Target o t) → near (length v.code) o ≡ true
       → Moved v (emit_jump_to_call k (T.Row i)) ok
       (record {
@@ -87,8 +85,8 @@ pub data Moved (v : View) : Call → Given → View → Type 0 where
       → near o (length v.code) ≡ true
       → o + jump_size ≤ length v.code
       → Moved v (patch_jump_call (L.Row i)) ok
-      (record { code = set (set v.code (o + 1) (bits o (length v.code) % 256)) (o + 2) (bits o (length v.code) / 256); marks = set v.marks i (Patched o d); starts = v.starts; depth = Live d })
-  spotted : (d : ℕ) → v.depth ≡ Live d
+      (record { code = set (set v.code (o + 1) (bits o (length v.code) % 256)) (o + 2) (bits o (length v.code) / 256); marks = set v.marks i (Patched o d); starts = v.starts; depth = Some d })
+  spotted : (d : ℕ) → v.depth ≡ Some d
       → Moved v jump_target_call (target (T.Row (length v.marks)))
       (record {
         code = v.code;
@@ -96,11 +94,11 @@ pub data Moved (v : View) : Call → Given → View → Type 0 where
         starts = v.starts;
         depth = v.depth;
       })
-  opened : (d : ℕ) → v.depth ≡ Dead
+  opened : (d : ℕ) → v.depth ≡ None
       → Moved v (new_region d) ok
       (record {
         code = v.code;
         marks = v.marks;
         starts = v.starts ++ ((length v.code, d) ∷ []);
-        depth = Live d;
+        depth = Some d;
       })

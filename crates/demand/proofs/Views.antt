@@ -1,5 +1,11 @@
 -- How each call moves the view that demand 3 looks at: from the models alone.
 -- Assumes nothing.
+use Rattle.builder.specs.Patch.{patching}
+use Rattle.builder.specs.Patch.{PatchDecision}
+use Rattle.builder.specs.Plan.{planned}
+use Rattle.builder.specs.Plan.{Decision}
+use Rattle.builder.specs.declared.Location.{Location}
+use Rattle.std.specs.Prelude.{Ok, Err, Some, None, Option}
 use mathlib.Core.Path.{◌≡◌, refl, sym, ap, ◌∙◌}
 use mathlib.Core.Bool.{Bool, true, false}
 use mathlib.Core.List.{List, [], ◌∷◌, ◌++◌}
@@ -15,20 +21,12 @@ use Rattle.op.specs.declared.Refusal.TheVariants.{Full, Unsound}
 use Rattle.op.specs.declared.Table.TheVariants.{Starts}
 use Rattle.code.specs.Encode.{encode}
 use Rattle.code.proofs.Inverse.{length_encode}
-use Rattle.builder.specs.declared.Answer.TheVariants.{Accepted}
 use Rattle.builder.specs.declared.Builder.{Builder}
 use Rattle.builder.specs.declared.Core.{Core}
-use Rattle.builder.specs.declared.Depth.{Depth}
-use Rattle.builder.specs.declared.Depth.TheVariants.{Dead, Live}
 use Rattle.builder.specs.declared.JumpLabel.{JumpLabel}
 use Rattle.builder.specs.declared.JumpLabel.TheVariants as L
 use Rattle.builder.specs.declared.JumpTarget.{JumpTarget}
-use Rattle.builder.specs.declared.Location.{Location}
 use Rattle.builder.specs.declared.marks.Mark.TheVariants.{Open, Target}
-use Rattle.builder.specs.declared.patch.PatchPlan.{PatchPlan}
-use Rattle.builder.specs.declared.patch.PatchPlan.TheVariants as Patching
-use Rattle.builder.specs.declared.plan.Plan.{Plan}
-use Rattle.builder.specs.declared.plan.Plan.TheVariants.{Idle, Refuse, Go}
 use Rattle.code.specs.Tables.{mark_cells, start_cells, within, room, put}
 use Rattle.builder.specs.Plan.{plan_of}
 use Rattle.builder.specs.Emission.{commit_of, emit_core, outcome_by, emit_named}
@@ -56,8 +54,8 @@ use Rattle.demand.proofs.Moves.{jumped_at, labelled_at, opened_at, patched_at, s
 -- emission
 
 -- an instruction's bytes behind the used ones
-module _ (c : Core) (l : Location) (d k : ℕ) (o : Operand) (ns : List ℕ) (word : ℕ) (code : List ℕ) (ll s : ℕ)
-    (a : Depth) (w : ℕ)
+module _ (c : Core) (l : Option Location) (d k : ℕ) (o : Operand) (ns : List ℕ) (word : ℕ) (code : List ℕ) (ll s : ℕ)
+    (a : Option ℕ) (w : ℕ)
     (within : c.code ≤ length code) (g : LiveGoes c l d k o (length ns) word (length code) ll s a w) where
   pub code_grows : take (c.code + s) (put c.code (encode k o ns) code) ≡ take c.code code ++ encode k o ns
   code_grows =
@@ -66,14 +64,14 @@ module _ (c : Core) (l : Location) (d k : ℕ) (o : Operand) (ns : List ℕ) (wo
       ∙ take_put_all c.code (encode k o ns) code within
 
 module _ (b : Builder) (k name : ℕ) (o : Operand) (ns code locs marks starts : List ℕ) where
-  emit_by : (p : Plan) → plan_of b.core b.location k name o (length ns) (length code) (length locs) ≡ p
+  emit_by : (p : Decision) → plan_of b.core b.location k name o (length ns) (length code) (length locs) ≡ p
       → Moved (view_of b code marks starts) (emit k o ns)
       (given (outcome_by b (commit_of p b.core b.location (encode k o ns) code locs)).answer)
       (view_of (after (outcome_by b (commit_of p b.core b.location (encode k o ns) code locs)).answer b)
       (commit_of p b.core b.location (encode k o ns) code locs).code marks starts)
-  emit_by Idle e = dead_emit (plan_idle b.core b.location k name o (length ns) (length code) (length locs) e)
-  emit_by (Refuse r) e = refused
-  emit_by (Go a w s) e =
+  emit_by (Ok None) e = dead_emit (plan_idle b.core b.location k name o (length ns) (length code) (length locs) e)
+  emit_by (Err r) e = refused
+  emit_by (Ok (Some (planned a w s))) e =
       let g = plan_goes b.core b.location k name o (length ns) (length code) (length locs) s w a e in
       rw (
         code_grows b.core b.location g.here k o ns 0 code (length locs) s a w g.sound.code g.goes,
@@ -99,13 +97,13 @@ unfolding mark_of
 target_of_lem x y = refl
 
 module _ (b : Builder) (k : ℕ) (code locs marks starts : List ℕ) where
-  jump_by_lem : (p : Plan) → jump_plan_of b.core b.location k (length code) (length locs) (length marks) ≡ p
+  jump_by_lem : (p : Decision) → jump_plan_of b.core b.location k (length code) (length locs) (length marks) ≡ p
       → Moved (view_of b code marks starts) (emit_jump_call k) (given_jump (commit_jump p b k code locs marks).answer)
       (view_of (after_jump (commit_jump p b k code locs marks).answer b) (commit_jump p b k code locs marks).code
       (commit_jump p b k code locs marks).marks starts)
-  jump_by_lem Idle e = dead_jump (jump_idle b.core b.location k (length code) (length locs) (length marks) e)
-  jump_by_lem (Refuse r) e = refused
-  jump_by_lem (Go a w s) e =
+  jump_by_lem (Ok None) e = dead_jump (jump_idle b.core b.location k (length code) (length locs) (length marks) e)
+  jump_by_lem (Err r) e = refused
+  jump_by_lem (Ok (Some (planned a w s))) e =
       let c = b.core in
       let g = forward_goes c b.location k (length code) (length locs) (length marks) s w a e in
       rw (
@@ -127,14 +125,14 @@ module _ (b : Builder) (k : ℕ) (code locs marks starts : List ℕ) where
 -- emit_jump_to
 
 module _ (b : Builder) (k : ℕ) (t : JumpTarget) (code locs marks starts : List ℕ) where
-  to_by : (p : Plan) → to_plan_of b.core b.location k t (length code) (length locs) marks ≡ p
+  to_by : (p : Decision) → to_plan_of b.core b.location k t (length code) (length locs) marks ≡ p
       → Moved (view_of b code marks starts) (emit_jump_to_call k t)
       (given (outcome_by b (commit_to p b.core b.location k code locs)).answer)
       (view_of (after (outcome_by b (commit_to p b.core b.location k code locs)).answer b)
       (commit_to p b.core b.location k code locs).code marks starts)
-  to_by Idle e = dead_to (to_idle b.core b.location k t (length code) (length locs) marks e)
-  to_by (Refuse r) e = refused
-  to_by (Go a w s) e =
+  to_by (Ok None) e = dead_to (to_idle b.core b.location k t (length code) (length locs) marks e)
+  to_by (Err r) e = refused
+  to_by (Ok (Some (planned a w s))) e =
       let c = b.core in
       let g = to_goes c b.location k t (length code) (length locs) marks s w a e in
       let u = mark_used c.marks marks g.row (Target g.offset g.depth) g.mark (λ n. clash cc) in
@@ -155,29 +153,29 @@ module _ (b : Builder) (k : ℕ) (t : JumpTarget) (code locs marks starts : List
 
 -- patch_jump
 
-revived_live : (x : Depth) (d : ℕ) → meets x d ≡ true → revived x d ≡ Live d
-revived_live Dead d e = refl
-revived_live (Live f) d e = ap Live (eqb-true f d e)
+revived_live : (x : Option ℕ) (d : ℕ) → meets x d ≡ true → revived x d ≡ Some d
+revived_live None d e = refl
+revived_live (Some f) d e = ap Some (eqb-true f d e)
 
 module _ (b : Builder) (code marks starts : List ℕ) where
-  dead_by : (p : PatchPlan) → patch_guard (markable b.core (length code) (length marks)) Unsound Patching.Idle ≡ p
+  dead_by : (p : PatchDecision) → patch_guard (markable b.core (length code) (length marks)) Unsound (Ok None) ≡ p
       → Moved (view_of b code marks starts) (patch_jump_call L.Dead) (given (commit_patch p b L.Dead code marks).answer)
       (view_of (after (commit_patch p b L.Dead code marks).answer b) (commit_patch p b L.Dead code marks).code
       (commit_patch p b L.Dead code marks).marks starts)
-  dead_by Patching.Idle e = dead_patch
-  dead_by (Patching.Refuse r) e = refused
-  dead_by (Patching.Go a w o) e = absurd (guard_never (markable b.core (length code) (length marks)) _ o w a e)
+  dead_by (Ok None) e = dead_patch
+  dead_by (Err r) e = refused
+  dead_by (Ok (Some (patching a w o))) e = absurd (guard_never (markable b.core (length code) (length marks)) _ o w a e)
 
   module _ (i : ℕ) where
-    row_by : (p : PatchPlan) → markable b.core (length code) (length marks) ≡ true
+    row_by : (p : PatchDecision) → markable b.core (length code) (length marks) ≡ true
         → mark_plan_of (mark_in b.core.marks marks i) b.core ≡ p
         → Moved (view_of b code marks starts) (patch_jump_call (L.Row i))
         (given (commit_patch p b (L.Row i) code marks).answer)
         (view_of (after (commit_patch p b (L.Row i) code marks).answer b) (commit_patch p b (L.Row i) code marks).code
         (commit_patch p b (L.Row i) code marks).marks starts)
-    row_by Patching.Idle sd e = absurd (mark_busy (mark_in b.core.marks marks i) b.core e)
-    row_by (Patching.Refuse r) sd e = refused
-    row_by (Patching.Go a w o) sd e =
+    row_by (Ok None) sd e = absurd (mark_busy (mark_in b.core.marks marks i) b.core e)
+    row_by (Err r) sd e = refused
+    row_by (Ok (Some (patching a w o))) sd e =
         let c = b.core in
         let h = markable_true c (length code) (length marks) sd in
         let g = patch_goes c o w a (mark_in c.marks marks i) e in
@@ -188,7 +186,7 @@ module _ (b : Builder) (code marks starts : List ℕ) where
         g.word
         (tab_nth c.marks (mark_at marks) i u.0 ∙ ap some u.1) g.small g.meet g.close g.place)
 
-    row_any : (t : Bool) → markable b.core (length code) (length marks) ≡ t → (p : PatchPlan)
+    row_any : (t : Bool) → markable b.core (length code) (length marks) ≡ t → (p : PatchDecision)
         → patch_guard t Unsound (mark_plan_of (mark_in b.core.marks marks i) b.core) ≡ p
         → Moved (view_of b code marks starts) (patch_jump_call (L.Row i))
         (given (commit_patch p b (L.Row i) code marks).answer)
@@ -197,7 +195,7 @@ module _ (b : Builder) (code marks starts : List ℕ) where
     row_any true sd p e = row_by p sd e
     row_any false sd p e = rw (sym e) refused
 
-  label_by : (x : JumpLabel) (p : PatchPlan) → patch_plan_of b.core x (length code) marks ≡ p
+  label_by : (x : JumpLabel) (p : PatchDecision) → patch_plan_of b.core x (length code) marks ≡ p
       → Moved (view_of b code marks starts) (patch_jump_call x) (given (commit_patch p b x code marks).answer)
       (view_of (after (commit_patch p b x code marks).answer b) (commit_patch p b x code marks).code
       (commit_patch p b x code marks).marks starts)
@@ -215,12 +213,12 @@ module _ (b : Builder) (code marks starts : List ℕ) where
 -- current_jump_target and new_code_region, which are not lent the code: the count of its used bytes must be within it
 
 module _ (b : Builder) (code marks starts : List ℕ) (fits : b.core.code ≤ length code) where
-  spot_by : (x : Depth) (t : Bool) → b.core.depth ≡ x → room mark_cells b.core.marks (length marks) ≡ t
+  spot_by : (x : Option ℕ) (t : Bool) → b.core.depth ≡ x → room mark_cells b.core.marks (length marks) ≡ t
       → Moved (view_of b code marks starts) jump_target_call (given_target (target_at x b marks).answer)
       (view_of (after_target (target_at x b marks).answer b) code (target_at x b marks).marks starts)
-  spot_by Dead t ed et = dead_target ed
-  spot_by (Live d) false ed et = rw et refused
-  spot_by (Live d) true ed et =
+  spot_by None t ed et = dead_target ed
+  spot_by (Some d) false ed et = rw et refused
+  spot_by (Some d) true ed et =
       let c = b.core in
       rw (
         et,
@@ -242,12 +240,12 @@ module _ (b : Builder) (code marks starts : List ℕ) (fits : b.core.code ≤ le
       (view_of (after_target (target_of b marks).answer b) code (target_of b marks).marks starts)
   target_moves = target_by _ refl
 
-  start_by : (d : ℕ) (x : Depth) (t : Bool) → b.core.depth ≡ x → room start_cells b.starts (length starts) ≡ t
+  start_by : (d : ℕ) (x : Option ℕ) (t : Bool) → b.core.depth ≡ x → room start_cells b.starts (length starts) ≡ t
       → Moved (view_of b code marks starts) (new_region d) (given (region_at x b d starts).answer)
       (view_of (after (region_at x b d starts).answer b) code marks (region_at x b d starts).cells)
-  start_by d (Live f) t ed et = refused
-  start_by d Dead false ed et = rw et refused
-  start_by d Dead true ed et =
+  start_by d (Some f) t ed et = refused
+  start_by d None false ed et = rw et refused
+  start_by d None true ed et =
       rw (
         et,
         starts_push b.starts b.core.code d starts
@@ -268,19 +266,19 @@ module _ (b : Builder) (code marks starts : List ℕ) (fits : b.core.code ≤ le
 
 -- a new builder
 
-pub made : (a b : Builder) → Accepted a ≡ Accepted b → a ≡ b
+pub made : (a b : Builder) → Ok a ≡ Ok b → a ≡ b
 made a b e = cc
 
-pub new_view : (told : Depth) (code marks starts : List ℕ) (b : Builder) → (new_of told starts).answer ≡ Accepted b
+pub new_view : (told : Option ℕ) (code marks starts : List ℕ) (b : Builder) → (new_of told starts).answer ≡ Ok b
     → view_of b code marks (new_of told starts).cells
     ≡ record { code = []; marks = []; starts = born told; depth = told }
 unfolding new_of tab
-new_view Dead code marks starts b e = rw (← made (fresh_at Dead 0) b e) refl
-new_view (Live d) code marks starts b e = go (room start_cells 0 (length starts)) refl e
+new_view None code marks starts b e = rw (← made (fresh_at None 0) b e) refl
+new_view (Some d) code marks starts b e = go (room start_cells 0 (length starts)) refl e
   where
     go : (t : Bool) → room start_cells 0 (length starts) ≡ t
-        → (unless t (Full Starts) starts (kept (Accepted (fresh_at (Live d) 1)) (put 0 (0 ∷ d ∷ []) starts))).answer ≡ Accepted b
-        → view_of b code marks (unless t (Full Starts) starts (kept (Accepted (fresh_at (Live d) 1)) (put 0 (0 ∷ d ∷ []) starts))).cells
-        ≡ record { code = []; marks = []; starts = born (Live d); depth = Live d }
-    go true q e = rw (← made (fresh_at (Live d) 1) b e, starts_push 0 0 d starts (omega (arith, ltb-true 0 (length starts / start_cells) q))) refl
+        → (unless t (Full Starts) starts (kept (Ok (fresh_at (Some d) 1)) (put 0 (0 ∷ d ∷ []) starts))).answer ≡ Ok b
+        → view_of b code marks (unless t (Full Starts) starts (kept (Ok (fresh_at (Some d) 1)) (put 0 (0 ∷ d ∷ []) starts))).cells
+        ≡ record { code = []; marks = []; starts = born (Some d); depth = Some d }
+    go true q e = rw (← made (fresh_at (Some d) 1) b e, starts_push 0 0 d starts (omega (arith, ltb-true 0 (length starts / start_cells) q))) refl
     go false q e = clash cc

@@ -1,6 +1,6 @@
 -- The public calls of the builder with their arguments, and what the history takes them for.
 -- Assumes nothing.
-use Rattle.std.specs.Prelude.{cond, List, [], ◌∷◌, ℕ, ◌<◌, ◌%◌, leb, ltb, eqb, ℤ, get_or, length}
+use Rattle.std.specs.Prelude.{cond, List, [], ◌∷◌, ℕ, ◌<◌, ◌%◌, leb, ltb, eqb, ℤ, get_or, length, Option}
 use Rattle.std.specs.Int.Signed.{mag}
 use Rattle.op.specs.Chosen.{LoadLocal0, LoadLocal1, LoadLocal2, LoadLocal3, LoadLocal, LoadLocalW, StoreLocal, StoreLocalW}
 use Rattle.op.specs.Chosen.{LoadGlobalCallable, CallBuiltinFunction, CallBuiltinType, CallFunctionKw, CallAttrKw}
@@ -8,7 +8,6 @@ use Rattle.op.specs.Opcodes.{RaiseUnboundLocal}
 use Rattle.op.specs.declared.Operand.TheVariants as O
 use Rattle.code.specs.Bytes.{signed}
 use Rattle.code.specs.declared.CodeRange.{CodeRange}
-use Rattle.code.specs.declared.Focus.{Focus}
 use Rattle.code.specs.declared.HandlerKind.{HandlerKind}
 use Rattle.builder.specs.declared.JumpLabel.{JumpLabel}
 use Rattle.builder.specs.declared.JumpTarget.{JumpTarget}
@@ -54,7 +53,7 @@ pub data PublicCall : Type 0 where
   register_local_names : (names : List ℕ) → PublicCall
   register_local_name : (slot name : ℕ) → PublicCall
   build : (fill : ℕ) → PublicCall
-  set_location : (range : CodeRange) (focus : Focus) → PublicCall
+  set_location : (range : CodeRange) (focus : Option CodeRange) → PublicCall
   current_offset : PublicCall
   current_position : PublicCall
   stack_depth : PublicCall

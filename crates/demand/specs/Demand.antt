@@ -3,7 +3,7 @@
 -- each jump with its final displacement; and the depths derived from those bytes and the region starts alone are the
 -- builder's: one at each instruction and at a live end, none at a dead end."
 -- Assumes nothing.
-use Rattle.std.specs.Prelude.{◌≡◌, ◌↔◌, ℕ, ◌*◌, ◌≤◌, ◌<◌, max, length, take, Ok, Result}
+use Rattle.std.specs.Prelude.{◌≡◌, ◌↔◌, ℕ, ◌*◌, ◌≤◌, ◌<◌, max, length, take, Ok, Result, Some, None}
 use mathlib.Core.List.{List, [], ◌∷◌, Memᴰ}
 use Rattle.std.proofs.Math.Option.{Option, some, none}
 use contract.Lifetimes.{Lfts}
@@ -12,9 +12,6 @@ use Rattle.op.specs.declared.Refusal.{Refusal}
 use Rattle.code.specs.Depths.{Smallest, Derived}
 use Rattle.code.specs.Reading.{instructions_in}
 use Rattle.code.specs.Tables.{no_depth, start_cells}
-use Rattle.builder.specs.declared.Answer.TheVariants.{Accepted}
-use Rattle.builder.specs.declared.Depth.{Depth}
-use Rattle.builder.specs.declared.Depth.TheVariants.{Dead, Live}
 use Rattle.builder.proofs.Builder.new.Reads.{Learnt as new_says}
 use Rattle.checker.specs.Cells.{cell}
 use Rattle.checker.specs.declared.Assignment.{Assignment}
@@ -26,21 +23,21 @@ use Rattle.demand.specs.Calls.{U16, build}
 use Rattle.demand.specs.World.{World, Slice, Holding, Made, Run, Taken}
 
 -- the depth that a new builder is told
-abbrev pub InDepth : Depth → Type 0
-InDepth Dead = Unit {0}
-InDepth (Live d) = U16 d
+abbrev pub InDepth : Option ℕ → Type 0
+InDepth None = Unit {0}
+InDepth (Some d) = U16 d
 
 -- "a fresh builder": what `new` answers and leaves by its contract, and any other tables
-pub record Fresh (told : Depth) (w : World) : Type 0 where
+pub record Fresh (told : Option ℕ) (w : World) : Type 0 where
   pub fits : InDepth told
   pub lifetimes : Lfts 1
   pub entry : Slice
   pub exit : Slice
-  pub keeps : new_says lifetimes (told, (entry, tt)) (Accepted w.state) (told, (exit, tt))
+  pub keeps : new_says lifetimes (told, (entry, tt)) (Ok w.state) (told, (exit, tt))
   pub starts : exit.now ≡ w.starts
 
 -- a run that begins with it
-abbrev pub begun : Depth → World → Run
+abbrev pub begun : Option ℕ → World → Run
 begun told w = record { world = w; history = blank told }
 
 -- "the finished bytes"
@@ -66,9 +63,9 @@ cell_of none = no_depth
 cell_of (some d) = d
 
 -- the greatest depth that a history shows: before an instruction, or at a live end; 0 where it shows none
-abbrev pub deepest_seen : List (Row isa) → Depth → ℕ
-deepest_seen [] Dead = 0
-deepest_seen [] (Live d) = d
+abbrev pub deepest_seen : List (Row isa) → Option ℕ → ℕ
+deepest_seen [] None = 0
+deepest_seen [] (Some d) = d
 deepest_seen (r ∷ rs) here = max r.depth (deepest_seen rs here)
 
 -- as many instructions as the history has, and the greatest depth that it shows
@@ -116,5 +113,5 @@ pub record Demand (w w' : World) (h : History) : Type 0 where
 -- the demand: of every fresh builder, all calls taken from there, and a `build` that is accepted (R59)
 abbrev pub Demanded : Type 0
 Demanded =
-    (told : Depth) (w : World) → Fresh told w → (x : Run) → Taken (begun told w) x
+    (told : Option ℕ) (w : World) → Fresh told w → (x : Run) → Taken (begun told w) x
     → (fill : ℕ) (w' : World) → Made (build fill) x.world ok w' → Demand x.world w' x.history

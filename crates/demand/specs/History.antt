@@ -1,15 +1,13 @@
 -- The history: the instructions accepted while live, each with its offset and the depth before it. It comes from the
 -- calls, their answers and the depths before them, never from bytes.
 -- Assumes nothing.
-use Rattle.std.specs.Prelude.{cond, List, [], ◌∷◌, ◌++◌, map, ℕ, ◌+◌, eqb, pos, length}
+use Rattle.std.specs.Prelude.{cond, List, [], ◌∷◌, ◌++◌, map, ℕ, ◌+◌, eqb, pos, length, Some, None}
 use Rattle.std.proofs.Math.Option.{Option, some, none}
 use Rattle.std.proofs.Math.IntN.{sub_ℕ}
 use Rattle.op.specs.declared.Operand.{Operand}
 use Rattle.op.specs.declared.Refusal.{Refusal}
 use Rattle.code.specs.Reading.{Spot, instruction}
 use Rattle.code.specs.Tables.{jump_size}
-use Rattle.builder.specs.declared.Depth.{Depth}
-use Rattle.builder.specs.declared.Depth.TheVariants.{Dead, Live}
 use Rattle.builder.specs.declared.JumpLabel.{JumpLabel}
 use Rattle.builder.specs.declared.JumpLabel.TheVariants as L
 use Rattle.builder.specs.declared.JumpTarget.{JumpTarget}
@@ -33,9 +31,9 @@ pub record Row (I : Isa) : Type 0 where
   pub what : What I
 
 -- the depth at the end, where it is live
-abbrev pub at_end : Depth → Option ℕ
-at_end Dead = none
-at_end (Live d) = some d
+abbrev pub at_end : Option ℕ → Option ℕ
+at_end None = none
+at_end (Some d) = some d
 
 module _ (I : Isa) where
   -- how many bytes it has
@@ -60,7 +58,7 @@ module _ (I : Isa) where
   resolve l t r = record { offset = r.offset; depth = r.depth; what = settled_aim l t r.what }
 
   -- the depth at an offset: an instruction's, the end's if it is live, and nowhere else one
-  abbrev pub depth_at : List (Row I) → ℕ → Depth → ℕ → Option ℕ
+  abbrev pub depth_at : List (Row I) → ℕ → Option ℕ → ℕ → Option ℕ
   depth_at [] n here o = cond (eqb n o) (at_end here) none
   depth_at (r ∷ rs) n here o = cond (eqb r.offset o) (some r.depth) (depth_at rs n here o)
 
@@ -97,17 +95,17 @@ pub record History : Type 0 where
   pub starts : List (ℕ × ℕ)
 
 -- the start of a new builder
-abbrev pub born : Depth → List (ℕ × ℕ)
-born Dead = []
-born (Live d) = (0, d) ∷ []
+abbrev pub born : Option ℕ → List (ℕ × ℕ)
+born None = []
+born (Some d) = (0, d) ∷ []
 
-abbrev pub blank : Depth → History
+abbrev pub blank : Option ℕ → History
 blank told = record { rows = []; end = 0; targets = []; starts = born told }
 
 -- an instruction accepted at a depth; in dead code none is
-abbrev pub add : History → Depth → What isa → History
-add h Dead w = h
-add h (Live d) w = record {
+abbrev pub add : History → Option ℕ → What isa → History
+add h None w = h
+add h (Some d) w = record {
   rows = h.rows ++ (record { offset = h.end; depth = d; what = w } ∷ []);
   end = h.end + size isa w;
   targets = h.targets;
@@ -153,7 +151,7 @@ on_target (target T.Dead) new old = old
 on_target (target (T.Row i)) new old = new i
 
 -- the history after a call, made at a depth and answered so
-abbrev pub seen : History → Depth → Call → Given → History
+abbrev pub seen : History → Option ℕ → Call → Given → History
 seen h d (emit k o ns) a = on_ok a (add h d (one (instruction k o ns))) h
 seen h d (emit_jump_call k) a = on_label a (λ i. add h d (leap k (waits i))) h
 seen h d (emit_jump_to_call k T.Dead) a = h

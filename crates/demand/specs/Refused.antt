@@ -1,10 +1,8 @@
 -- Demand 1. "a refused builder call changes neither state nor tables"
 -- Assumes nothing.
-use Rattle.std.specs.Prelude.{◌≡◌}
+use Rattle.std.specs.Prelude.{◌≡◌, Err, Option, ℕ}
 use contract.Lifetimes.{Lfts}
 use Rattle.op.specs.declared.Refusal.{Refusal}
-use Rattle.builder.specs.declared.Answer.TheVariants.{Refused}
-use Rattle.builder.specs.declared.Depth.{Depth}
 use Rattle.builder.proofs.Builder.new.Reads.{Learnt as new_says}
 use Rattle.demand.specs.History.{no}
 use Rattle.demand.specs.Calls.{PublicCall}
@@ -17,5 +15,5 @@ RefusedSame = (c : PublicCall) (w w' : World) (r : Refusal) → Made c w (no r) 
 -- of `new`, which hands out no state and is lent the starts alone (R26)
 abbrev pub NewRefused : Type 0
 NewRefused =
-    (told : Depth) (κs : Lfts 1) (entry exit : Slice) (r : Refusal) → new_says κs (told, (entry, tt)) (Refused r) (told, (exit, tt))
+    (told : Option ℕ) (κs : Lfts 1) (entry exit : Slice) (r : Refusal) → new_says κs (told, (entry, tt)) (Err r) (told, (exit, tt))
     → exit.now ≡ entry.now

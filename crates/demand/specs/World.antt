@@ -2,17 +2,13 @@
 -- of a function is its `ensures` as the toolchain reads it from the source: a fact about the arguments, the answer
 -- and the arguments at exit. So nothing here says a second time what a call does.
 -- Assumes nothing.
-use Rattle.std.specs.Prelude.{◌≡◌, List, ℕ}
+use Rattle.builder.specs.Patch.{patching}
+use Rattle.builder.specs.declared.JumpTarget.{JumpTarget}
+use Rattle.builder.specs.declared.JumpLabel.{JumpLabel}
+use Rattle.op.specs.declared.Refusal.{Refusal}
+use Rattle.std.specs.Prelude.{◌≡◌, List, ℕ, Ok, Err, Result}
 use Rattle.std.specs.Borrow.{Bor, MutBor}
-use Rattle.builder.specs.declared.Added.{Added}
-use Rattle.builder.specs.declared.Added.TheVariants as N
-use Rattle.builder.specs.declared.Answer.{Answer}
-use Rattle.builder.specs.declared.Answer.TheVariants as R
 use Rattle.builder.specs.declared.Builder.{Builder}
-use Rattle.builder.specs.declared.Jumped.{Jumped}
-use Rattle.builder.specs.declared.Jumped.TheVariants as J
-use Rattle.builder.specs.declared.Targeted.{Targeted}
-use Rattle.builder.specs.declared.Targeted.TheVariants as G
 use Rattle.builder.proofs.Builder.emit.Reads.{Learnt as emit_says}
 use Rattle.builder.proofs.Builder.emit_u8.Reads.{Learnt as emit_u8_says}
 use Rattle.builder.proofs.Builder.emit_i8.Reads.{Learnt as emit_i8_says}
@@ -73,37 +69,37 @@ world b c l e k n m s =
 -- what an answer says, and the state that the caller has then: a refused call hands back none, so the caller has the
 -- one that it gave
 
-abbrev pub given : Answer → Given
-given (R.Accepted b) = ok
-given (R.Refused r) = no r
+abbrev pub given : Result Builder Refusal → Given
+given (Ok b) = ok
+given (Err r) = no r
 
-abbrev pub after : Answer → Builder → Builder
-after (R.Accepted b) old = b
-after (R.Refused r) old = old
+abbrev pub after : Result Builder Refusal → Builder → Builder
+after (Ok b) old = b
+after (Err r) old = old
 
-abbrev pub given_jump : Jumped → Given
-given_jump (J.Made b l) = label l
-given_jump (J.Refused r) = no r
+abbrev pub given_jump : Result (Builder × JumpLabel) Refusal → Given
+given_jump (Ok (b, l)) = label l
+given_jump (Err r) = no r
 
-abbrev pub after_jump : Jumped → Builder → Builder
-after_jump (J.Made b l) old = b
-after_jump (J.Refused r) old = old
+abbrev pub after_jump : Result (Builder × JumpLabel) Refusal → Builder → Builder
+after_jump (Ok (b, l)) old = b
+after_jump (Err r) old = old
 
-abbrev pub given_target : Targeted → Given
-given_target (G.Made b t) = target t
-given_target (G.Refused r) = no r
+abbrev pub given_target : Result (Builder × JumpTarget) Refusal → Given
+given_target (Ok (b, t)) = target t
+given_target (Err r) = no r
 
-abbrev pub after_target : Targeted → Builder → Builder
-after_target (G.Made b t) old = b
-after_target (G.Refused r) old = old
+abbrev pub after_target : Result (Builder × JumpTarget) Refusal → Builder → Builder
+after_target (Ok (b, t)) old = b
+after_target (Err r) old = old
 
-abbrev pub given_const : Added → Given
-given_const (N.Made b i) = ok
-given_const (N.Refused r) = no r
+abbrev pub given_const : Result (Builder × ℕ) Refusal → Given
+given_const (Ok (b, i)) = ok
+given_const (Err r) = no r
 
-abbrev pub after_const : Added → Builder → Builder
-after_const (N.Made b i) old = b
-after_const (N.Refused r) old = old
+abbrev pub after_const : Result (Builder × ℕ) Refusal → Builder → Builder
+after_const (Ok (b, i)) old = b
+after_const (Err r) old = old
 
 -- a call that never refuses
 abbrev pub always : {A : Type 0} → A → Given
@@ -145,46 +141,46 @@ pub record Holds (t : Lent) (w : World) : Type 0 where
 -- what a world becomes, by the tables that the call is lent to change: those at exit, and the others as they were
 
 -- code and locations
-abbrev pub emission : Answer → Lent → World → World
+abbrev pub emission : Result Builder Refusal → Lent → World → World
 emission r t w =
     world (after r w.state) t.code.now t.locations.now w.exceptions w.constants w.names w.marks w.starts
 
 -- code, locations and marks
-abbrev pub labelling : Jumped → Lent → World → World
+abbrev pub labelling : Result (Builder × JumpLabel) Refusal → Lent → World → World
 labelling r t w =
     world (after_jump r w.state) t.code.now t.locations.now w.exceptions w.constants w.names
     t.marks.now w.starts
 
 -- marks
-abbrev pub targeting : Targeted → Lent → World → World
+abbrev pub targeting : Result (Builder × JumpTarget) Refusal → Lent → World → World
 targeting r t w =
     world (after_target r w.state) w.code w.locations w.exceptions w.constants w.names t.marks.now w.starts
 
 -- code and marks
-abbrev pub patching : Answer → Lent → World → World
+abbrev pub patching : Result Builder Refusal → Lent → World → World
 patching r t w =
     world (after r w.state) t.code.now w.locations w.exceptions w.constants w.names t.marks.now w.starts
 
 -- starts
-abbrev pub opening : Answer → Lent → World → World
+abbrev pub opening : Result Builder Refusal → Lent → World → World
 opening r t w =
     world (after r w.state) w.code w.locations w.exceptions w.constants w.names w.marks
     t.starts.now
 
 -- constants
-abbrev pub holding : Added → Lent → World → World
+abbrev pub holding : Result (Builder × ℕ) Refusal → Lent → World → World
 holding r t w =
     world (after_const r w.state) w.code w.locations w.exceptions t.constants.now w.names w.marks
     w.starts
 
 -- exceptions
-abbrev pub catching : Answer → Lent → World → World
+abbrev pub catching : Result Builder Refusal → Lent → World → World
 catching r t w =
     world (after r w.state) w.code w.locations t.exceptions.now w.constants w.names w.marks
     w.starts
 
 -- names
-abbrev pub naming : Answer → Lent → World → World
+abbrev pub naming : Result Builder Refusal → Lent → World → World
 naming r t w =
     world (after r w.state) w.code w.locations w.exceptions w.constants t.names.now w.marks
     w.starts

@@ -3,8 +3,8 @@
 // bytes, so that no work can be left out.
 #![tactic(auto)]
 
-use builder::{Answer, Builder, Depth, Jumped};
-use code::{CodeRange, Focus};
+use builder::{Builder};
+use code::{CodeRange};
 use op::opcodes;
 use std::io;
 
@@ -24,30 +24,30 @@ fn turn(
     let at = CodeRange { start: i, end: i };
     let slot = (i % 300) as u16;
     let constant = (i % 65536) as u16;
-    let here = b.set_location(at, Focus::Absent);
-    let Answer::Accepted(one) = here.emit_u16(opcodes::LOAD_CONST, constant, code, locations) else {
+    let here = b.set_location(at, None);
+    let Ok(one) = here.emit_u16(opcodes::LOAD_CONST, constant, code, locations) else {
         return here;
     };
-    let Answer::Accepted(two) = one.emit_i8(opcodes::LOAD_SMALL_INT, 7, code, locations) else {
+    let Ok(two) = one.emit_i8(opcodes::LOAD_SMALL_INT, 7, code, locations) else {
         return one;
     };
-    let Answer::Accepted(three) = two.emit(opcodes::BINARY_ADD, code, locations) else {
+    let Ok(three) = two.emit(opcodes::BINARY_ADD, code, locations) else {
         return two;
     };
-    let Answer::Accepted(four) = three.emit_store_local(slot, code, locations) else {
+    let Ok(four) = three.emit_store_local(slot, code, locations) else {
         return three;
     };
-    let Answer::Accepted(five) = four.emit_load_local(slot, code, locations) else {
+    let Ok(five) = four.emit_load_local(slot, code, locations) else {
         return four;
     };
-    let Jumped::Made(six, label) = five.emit_jump(opcodes::JUMP_IF_FALSE, code, locations, marks)
+    let Ok((six, label)) = five.emit_jump(opcodes::JUMP_IF_FALSE, code, locations, marks)
     else {
         return five;
     };
-    let Answer::Accepted(seven) = six.patch_jump(label, code, marks) else {
+    let Ok(seven) = six.patch_jump(label, code, marks) else {
         return six;
     };
-    let Answer::Accepted(eight) = seven.emit(opcodes::NOP, code, locations) else {
+    let Ok(eight) = seven.emit(opcodes::NOP, code, locations) else {
         return seven;
     };
     eight
@@ -55,17 +55,17 @@ fn turn(
 
 // A call with keyword names and its return, at the rule's end.
 fn ending(b: Builder, code: &mut [u8; 65536], locations: &mut [u32; 106000]) -> Builder {
-    let Answer::Accepted(one) = b.emit_load_local(0, code, locations) else {
+    let Ok(one) = b.emit_load_local(0, code, locations) else {
         return b;
     };
-    let Answer::Accepted(two) = one.emit_load_local(1, code, locations) else {
+    let Ok(two) = one.emit_load_local(1, code, locations) else {
         return one;
     };
     let kwnames: [u16; 1] = [7];
-    let Answer::Accepted(three) = two.emit_call_function_kw(0, &kwnames, code, locations) else {
+    let Ok(three) = two.emit_call_function_kw(0, &kwnames, code, locations) else {
         return two;
     };
-    let Answer::Accepted(four) = three.emit(opcodes::RETURN_VALUE, code, locations) else {
+    let Ok(four) = three.emit(opcodes::RETURN_VALUE, code, locations) else {
         return three;
     };
     four
@@ -78,7 +78,7 @@ fn rule(
     marks: &mut [u32; 10000],
     starts: &mut [u32; 2],
 ) -> usize {
-    let Answer::Accepted(first) = Builder::new(Depth::Live(0), starts) else {
+    let Ok(first) = Builder::new(Some(0), starts) else {
         return 0;
     };
     let mut b = first;

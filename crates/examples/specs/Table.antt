@@ -1,6 +1,6 @@
 -- The rules' examples A to L, a single table and statement (R61), each about what a call's promise says of it.
 -- Assumes nothing.
-use Rattle.std.specs.Prelude.{◌≡◌, List, [], ◌∷◌, ◌++◌, ℕ, ◌%◌, ◌<◌, negsuc, length, drop, replicate, Result, Ok, Err}
+use Rattle.std.specs.Prelude.{◌≡◌, List, [], ◌∷◌, ◌++◌, ℕ, ◌%◌, ◌<◌, negsuc, length, drop, replicate, Result, Ok, Err, Some, None, Option}
 use Rattle.op.specs.Opcodes.{last_opcode, Jump, RaiseUnboundLocal, ForIter, JumpIfTrueOrPop}
 use Rattle.op.specs.Refusals.{number_of}
 use Rattle.op.specs.declared.Operand.TheVariants.{U16, CallKw}
@@ -12,18 +12,10 @@ use Rattle.code.specs.Encode.{encode}
 use Rattle.code.specs.Entries.{find_from, entry_row, table_of}
 use Rattle.code.specs.Lookups.{handler_of}
 use Rattle.code.specs.declared.ExceptionEntry.{ExceptionEntry}
-use Rattle.code.specs.declared.Found.TheVariants as F
-use Rattle.code.specs.declared.Handled.TheVariants.{Row, Absent}
 use Rattle.code.specs.declared.HandlerKind.TheVariants.{Consuming, Cleanup}
-use Rattle.builder.specs.declared.Added.TheVariants as N
-use Rattle.builder.specs.declared.Answer.TheVariants as R
 use Rattle.builder.specs.declared.Builder.{Builder}
-use Rattle.builder.specs.declared.Depth.{Depth}
-use Rattle.builder.specs.declared.Depth.TheVariants.{Dead, Live}
 use Rattle.builder.specs.declared.JumpLabel.TheVariants as L
 use Rattle.builder.specs.declared.JumpTarget.TheVariants as T
-use Rattle.builder.specs.declared.Jumped.TheVariants as J
-use Rattle.builder.specs.declared.Location.TheVariants.{Unset}
 use Rattle.code.specs.Tables.{put}
 use Rattle.op.specs.Chosen.{CallFunctionKw}
 use Rattle.builder.specs.Emission.{outcome, emit_of, emit_named, load_op, load_operand}
@@ -36,10 +28,10 @@ use Rattle.checker.specs.declared.Assignment.{Assignment}
 use Rattle.checker.specs.Promise.{Promise}
 
 -- a builder with so many bytes, marks and constants, and no location
-abbrev pub holding : Depth → ℕ → ℕ → ℕ → Builder
+abbrev pub holding : Option ℕ → ℕ → ℕ → ℕ → Builder
 holding depth code marks constants = record {
   core = record { code = code; locations = 0; marks = marks; depth = depth };
-  location = Unset;
+  location = None;
   exceptions = 0;
   constants = constants;
   names = 0;
@@ -48,10 +40,10 @@ holding depth code marks constants = record {
 
 -- the same without constants, live at a depth, or dead
 abbrev pub live : ℕ → ℕ → ℕ → Builder
-live depth code marks = holding (Live depth) code marks 0
+live depth code marks = holding (Some depth) code marks 0
 
 abbrev pub dead : ℕ → ℕ → Builder
-dead code marks = holding Dead code marks 0
+dead code marks = holding None code marks 0
 
 -- marks of one row at depth 0: a target at 0, an open label at 0, and that label patched
 abbrev pub target_0 : List ℕ
@@ -107,53 +99,53 @@ pub record Examples : Type 0 where
   -- B: jump to its own opcode: -3, FD FF
   pub b : (signed 65536 (bits 0 0) ≡ negsuc 2)
       × ((code : List ℕ) → length code ≡ 3
-      → emit_jump_to_of (live 0 0 1) Jump (T.Row 0) code [] target_0 ≡ outcome (R.Accepted (dead 3 1)) (put 0 (0x58 ∷ 0xFD ∷ 0xFF ∷ []) code) [])
+      → emit_jump_to_of (live 0 0 1) Jump (T.Row 0) code [] target_0 ≡ outcome (Ok (dead 3 1)) (put 0 (0x58 ∷ 0xFD ∷ 0xFF ∷ []) code) [])
   -- C: label at 0: target 32,770 gives FF 7F; 32,771 is 6
   pub c : (code : List ℕ) → length code ≡ 32771
-      → (patch_jump_of (dead 32770 1) (L.Row 0) code label_0 ≡ patch_outcome (R.Accepted (live 0 32770 1)) (put 1 (0xFF ∷ 0x7F ∷ []) code) patched_0)
-      × (patch_jump_of (dead 32771 1) (L.Row 0) code label_0 ≡ patch_outcome (R.Refused JumpTooFar) code label_0) × (number_of JumpTooFar ≡ 6)
+      → (patch_jump_of (dead 32770 1) (L.Row 0) code label_0 ≡ patch_outcome (Ok (live 0 32770 1)) (put 1 (0xFF ∷ 0x7F ∷ []) code) patched_0)
+      × (patch_jump_of (dead 32771 1) (L.Row 0) code label_0 ≡ patch_outcome (Err JumpTooFar) code label_0) × (number_of JumpTooFar ≡ 6)
   -- D: jump at 32,765 to 0 gives 00 80; at 32,766 it is 6
   pub d : (code : List ℕ) → length code ≡ 32769
-      → (emit_jump_to_of (live 0 32765 1) Jump (T.Row 0) code [] target_0 ≡ outcome (R.Accepted (dead 32768 1)) (put 32765 (0x58 ∷ 0x00 ∷ 0x80 ∷ []) code) [])
-      × (emit_jump_to_of (live 0 32766 1) Jump (T.Row 0) code [] target_0 ≡ outcome (R.Refused JumpTooFar) code []) × (number_of JumpTooFar ≡ 6)
+      → (emit_jump_to_of (live 0 32765 1) Jump (T.Row 0) code [] target_0 ≡ outcome (Ok (dead 32768 1)) (put 32765 (0x58 ∷ 0x00 ∷ 0x80 ∷ []) code) [])
+      × (emit_jump_to_of (live 0 32766 1) Jump (T.Row 0) code [] target_0 ≡ outcome (Err JumpTooFar) code []) × (number_of JumpTooFar ≡ 6)
   -- E: 255 names make 513 bytes in CallFunctionKw; 256 is 7; dead, 256 is accepted and name 65,536 is 8
   pub e : ((names code : List ℕ) → length names ≡ 255 → length code ≡ 513
-      → emit_of (live 255 0 0) CallFunctionKw (CallKw 0 (length names % 256)) names code [] ≡ outcome (R.Accepted (live 0 513 0)) (put 0 (encode CallFunctionKw (CallKw 0 255) names) code) [])
+      → emit_of (live 255 0 0) CallFunctionKw (CallKw 0 (length names % 256)) names code [] ≡ outcome (Ok (live 0 513 0)) (put 0 (encode CallFunctionKw (CallKw 0 255) names) code) [])
       × ((names code : List ℕ) → length names ≡ 256 → length code ≡ 515
       → (emit_of (live 256 0 0) CallFunctionKw (CallKw 0 (length names % 256)) names code []
-      ≡ outcome (R.Refused TooManyKeywords) code []) × (number_of TooManyKeywords ≡ 7)
+      ≡ outcome (Err TooManyKeywords) code []) × (number_of TooManyKeywords ≡ 7)
       × (emit_of (dead 0 0) CallFunctionKw (CallKw 0 (length names % 256)) names code []
-      ≡ outcome (R.Accepted (dead 0 0)) code [])
-      × (emit_named (dead 0 0) RaiseUnboundLocal 65536 (U16 0) [] code [] ≡ outcome (R.Refused NameTooLarge) code []) × (number_of NameTooLarge ≡ 8))
+      ≡ outcome (Ok (dead 0 0)) code [])
+      × (emit_named (dead 0 0) RaiseUnboundLocal 65536 (U16 0) [] code [] ≡ outcome (Err NameTooLarge) code []) × (number_of NameTooLarge ≡ 8))
   -- F: ForIter at depth 1: 2 / 0; at depth 0: 4
   pub f : (code : List ℕ) → length code ≡ 3
-      → (emit_jump_of (live 1 0 0) ForIter code [] (0 ∷ 0 ∷ 0 ∷ 0 ∷ []) ≡ jump_outcome (J.Made (live 2 3 1) (L.Row 0)) (put 0 (0x5E ∷ 0 ∷ 0 ∷ []) code) [] (put 0 (mark_row open_kind 0 0) (0 ∷ 0 ∷ 0 ∷ 0 ∷ [])))
+      → (emit_jump_of (live 1 0 0) ForIter code [] (0 ∷ 0 ∷ 0 ∷ 0 ∷ []) ≡ jump_outcome (Ok ((live 2 3 1), (L.Row 0))) (put 0 (0x5E ∷ 0 ∷ 0 ∷ []) code) [] (put 0 (mark_row open_kind 0 0) (0 ∷ 0 ∷ 0 ∷ 0 ∷ [])))
       × (emit_jump_of (live 0 0 0) ForIter code [] (0 ∷ 0 ∷ 0 ∷ 0 ∷ [])
-      ≡ jump_outcome (J.Refused DepthBelowZero) code [] (0 ∷ 0 ∷ 0 ∷ 0 ∷ []))
+      ≡ jump_outcome (Err DepthBelowZero) code [] (0 ∷ 0 ∷ 0 ∷ 0 ∷ []))
       × (number_of DepthBelowZero ≡ 4)
   -- G: JumpIfTrueOrPop at depth 1 patched right behind itself: 11
   pub g : (emit_jump_of (live 1 0 0) JumpIfTrueOrPop (0 ∷ 0 ∷ 0 ∷ []) [] (0 ∷ 0 ∷ 0 ∷ 0 ∷ [])
-      ≡ jump_outcome (J.Made (live 0 3 1) (L.Row 0)) (0x5B ∷ 0 ∷ 0 ∷ []) [] (mark_row open_kind 0 1))
+      ≡ jump_outcome (Ok ((live 0 3 1), (L.Row 0))) (0x5B ∷ 0 ∷ 0 ∷ []) [] (mark_row open_kind 0 1))
       × (patch_jump_of (live 0 3 1) (L.Row 0) (0x5B ∷ 0 ∷ 0 ∷ []) (mark_row open_kind 0 1)
-      ≡ patch_outcome (R.Refused DepthsDiffer) (0x5B ∷ 0 ∷ 0 ∷ []) (mark_row open_kind 0 1))
+      ≡ patch_outcome (Err DepthsDiffer) (0x5B ∷ 0 ∷ 0 ∷ []) (mark_row open_kind 0 1))
       × (number_of DepthsDiffer ≡ 11)
   -- H: offset 1 gives 30, 2 gives 20, 8 gives 30, 10 none; over the rows and over the records
-  pub h : (handler_of rows 1 ≡ Row 1 (entry_row to_30)) × (handler_of rows 2 ≡ Row 0 (entry_row to_20))
-      × (handler_of rows 8 ≡ Row 1 (entry_row to_30)) × (handler_of rows 10 ≡ Absent)
-      × (find_from entries 1 0 ≡ F.Row 1 to_30) × (find_from entries 2 0 ≡ F.Row 0 to_20)
-      × (find_from entries 8 0 ≡ F.Row 1 to_30) × (find_from entries 10 0 ≡ F.Absent)
+  pub h : (handler_of rows 1 ≡ Some (1, (entry_row to_30))) × (handler_of rows 2 ≡ Some (0, (entry_row to_20)))
+      × (handler_of rows 8 ≡ Some (1, (entry_row to_30))) × (handler_of rows 10 ≡ None)
+      × (find_from entries 1 0 ≡ Some (1, to_30)) × (find_from entries 2 0 ≡ Some (0, to_20))
+      × (find_from entries 8 0 ≡ Some (1, to_30)) × (find_from entries 10 0 ≡ None)
   -- I: 65,535 held: the next constant is index 65,535; then 9
   pub i : (value : ℕ) (cells : List ℕ) → length cells ≡ 65537
-      → (add_const_of (holding Dead 0 0 65535) value cells
-      ≡ added_kept (N.Made (holding Dead 0 0 65536) 65535) (put 65535 (value ∷ []) cells))
-      × (add_const_of (holding Dead 0 0 65536) value cells ≡ added_kept (N.Refused TooManyConstants) cells)
+      → (add_const_of (holding None 0 0 65535) value cells
+      ≡ added_kept (Ok ((holding None 0 0 65536), 65535)) (put 65535 (value ∷ []) cells))
+      × (add_const_of (holding None 0 0 65536) value cells ≡ added_kept (Err TooManyConstants) cells)
       × (number_of TooManyConstants ≡ 9)
   -- J: load slots 3, 4, 255, 256: 0C; 0D 04; 0D FF; 0E 00 01
   pub j : (code : List ℕ) → length code ≡ 3
-      → (emit_of (live 0 0 0) (load_op 3) (load_operand 3) [] code [] ≡ outcome (R.Accepted (live 1 1 0)) (put 0 (0x0C ∷ []) code) [])
-      × (emit_of (live 0 0 0) (load_op 4) (load_operand 4) [] code [] ≡ outcome (R.Accepted (live 1 2 0)) (put 0 (0x0D ∷ 0x04 ∷ []) code) [])
-      × (emit_of (live 0 0 0) (load_op 255) (load_operand 255) [] code [] ≡ outcome (R.Accepted (live 1 2 0)) (put 0 (0x0D ∷ 0xFF ∷ []) code) [])
-      × (emit_of (live 0 0 0) (load_op 256) (load_operand 256) [] code [] ≡ outcome (R.Accepted (live 1 3 0)) (put 0 (0x0E ∷ 0x00 ∷ 0x01 ∷ []) code) [])
+      → (emit_of (live 0 0 0) (load_op 3) (load_operand 3) [] code [] ≡ outcome (Ok (live 1 1 0)) (put 0 (0x0C ∷ []) code) [])
+      × (emit_of (live 0 0 0) (load_op 4) (load_operand 4) [] code [] ≡ outcome (Ok (live 1 2 0)) (put 0 (0x0D ∷ 0x04 ∷ []) code) [])
+      × (emit_of (live 0 0 0) (load_op 255) (load_operand 255) [] code [] ≡ outcome (Ok (live 1 2 0)) (put 0 (0x0D ∷ 0xFF ∷ []) code) [])
+      × (emit_of (live 0 0 0) (load_op 256) (load_operand 256) [] code [] ≡ outcome (Ok (live 1 3 0)) (put 0 (0x0E ∷ 0x00 ∷ 0x01 ∷ []) code) [])
   -- K: 23
   pub k : Checks code_k from_zero (Err NoDepths) (65536 ∷ 65536 ∷ 65536 ∷ 65536 ∷ 65536 ∷ [])
       × (number_of NoDepths ≡ 23)

@@ -1,5 +1,8 @@
 -- Reading a listing and listing a code are each other's inverse.
 -- Assumes nothing.
+use Rattle.code.specs.Decode.{instr}
+use Rattle.code.specs.Decode.{Step}
+use Rattle.std.specs.Prelude.{Ok, Err, Some, None}
 use mathlib.Core.Path.{◌≡◌, refl, sym, ap, ◌∙◌, subst}
 use mathlib.Core.Bool.{Bool, true, false, cond}
 use mathlib.Core.List.{List, [], ◌∷◌, ◌++◌, append_assoc}
@@ -21,8 +24,6 @@ use Rattle.code.specs.Bytes.{words_in}
 use Rattle.code.specs.Decode.{decode, names_in, names_at}
 use Rattle.code.specs.Reading.{Read, Spot, instruction, before, stops_at, spot_at, read_by, read_up_to, instructions_from}
 use Rattle.code.specs.Reading.{instructions_in}
-use Rattle.code.specs.declared.Step.{Step}
-use Rattle.code.specs.declared.Step.TheVariants.{Instr, End, Refused}
 use Rattle.code.proofs.Decoding.{Decoded, decoded, names_part, decode_end}
 use Rattle.code.proofs.Instructions.{instructions_step}
 use Rattle.code.proofs.Inverse.{encode_decode, reads_encoded}
@@ -142,11 +143,11 @@ module _ (room : ℕ) where
       → ((z : ℕ) → 0 < z → z ≤ length u → (instructions_from last_opcode (at + z) (drop z u)).fault ≡ none
       → ReadAs (at + z) (drop z u) (instructions_from last_opcode (at + z) (drop z u)))
       → ReadAs at u (read_by last_opcode (instructions_from last_opcode) at u t)
-  read_step at u b h (Instr k o z) e f later =
+  read_step at u b h (Ok (Some (instr k o z))) e f later =
       let d = decoded last_opcode at u k o z e in
       read_line at u b h k o z d (instructions_from last_opcode (at + z) (drop z u)) (later z d.some d.fits f)
-  read_step at u b h End e f later = read_end at u (decode_end last_opcode at u e)
-  read_step at u b h (Refused r) e f later = clash cc
+  read_step at u b h (Ok None) e f later = read_end at u (decode_end last_opcode at u e)
+  read_step at u b h (Err r) e f later = clash cc
 
   read_up : (n at : ℕ) (u : List ℕ) → length u ≤ n → Bytes u → at + length u ≤ room
       → (instructions_from last_opcode at u).fault ≡ none

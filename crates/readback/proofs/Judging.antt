@@ -1,5 +1,8 @@
 -- A line is judged as the listing wrote it, both ways.
 -- Assumes nothing.
+use Rattle.op.specs.declared.Shape.{Shape}
+use Rattle.op.specs.declared.Refusal.{Refusal}
+use Rattle.std.specs.Prelude.{Ok, Err, Result}
 use mathlib.Core.Path.{◌≡◌, refl, sym, ap, ◌∙◌, subst}
 use mathlib.Core.Bool.{Bool, true, false, cond}
 use mathlib.Core.List.{List}
@@ -15,8 +18,6 @@ use Rattle.op.specs.Opcodes.{table}
 use Rattle.op.specs.Shapes.{shape_of, operand_shape}
 use Rattle.op.specs.declared.Operand.{Operand}
 use Rattle.op.specs.declared.Refusal.TheVariants.{Full, Disagrees}
-use Rattle.op.specs.declared.Shaped.{Shaped}
-use Rattle.op.specs.declared.Shaped.TheVariants as P
 use Rattle.op.specs.declared.Table.TheVariants.{Code}
 use Rattle.code.specs.Decode.{names_in}
 use Rattle.code.specs.Encode.{Formed as WellFormed}
@@ -58,7 +59,7 @@ target_is (some y) none e = clash cc
 target_is (some y) (some z) e = ap some (whole_is y z e)
 
 -- the line of a well formed instruction in range gives its bytes
-module _ (at k : ℕ) (o : Operand) (names : List ℕ) (h : k < length table) (s : shape_of k ≡ P.Is (operand_shape o))
+module _ (at k : ℕ) (o : Operand) (names : List ℕ) (h : k < length table) (s : shape_of k ≡ Ok (operand_shape o))
     (r : InRange o) (c : names_in o ≡ length names) (w : Words names) where
   formed_back : formed (row_text (row_of at k o names)) ≡ some (record { row = row_of at k o names; said = said o names })
   unfolding formed formed_row and_then
@@ -97,12 +98,12 @@ pub record FormedOf (t : List ℕ) (f : Formed) : Type 0 where
   pub well : WellFormed f.row.opcode f.said.operand f.said.names
   pub says : Says (operand_shape f.said.operand) f.row.operands f.said
 
-by_shape : (r : Row) (x : Said) (p : Shaped) → shape_of r.opcode ≡ p → said_by p r.operands ≡ some x
-    → (shape_of r.opcode ≡ P.Is (operand_shape x.operand)) × Says (operand_shape x.operand) r.operands x
-by_shape r x (P.Refused q) e s = absurd (nothing s)
-by_shape r x (P.Is sh) e s =
+by_shape : (r : Row) (x : Said) (p : Result Shape Refusal) → shape_of r.opcode ≡ p → said_by p r.operands ≡ some x
+    → (shape_of r.opcode ≡ Ok (operand_shape x.operand)) × Says (operand_shape x.operand) r.operands x
+by_shape r x (Err q) e s = absurd (nothing s)
+by_shape r x (Ok sh) e s =
     let y = said_only r.operands x sh s in
-    (e ∙ ap P.Is (sym y.shape), rw y.shape y)
+    (e ∙ ap Ok (sym y.shape), rw y.shape y)
 
 pub formed_only : (t : List ℕ) (f : Formed) → formed t ≡ some f → FormedOf t f
 unfolding formed formed_row

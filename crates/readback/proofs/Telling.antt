@@ -1,5 +1,6 @@
 -- An instruction by its name and its operand column, and its bytes.
 -- Assumes nothing.
+use Rattle.op.specs.Effects.{by}
 use Rattle.std.specs.Prelude.{Ok, Err, Some, None, Result}
 use mathlib.Core.Path.{◌≡◌, refl, sym, ap, ◌∙◌}
 use mathlib.Core.Bool.{Bool, true, false, cond}
@@ -20,13 +21,9 @@ use Rattle.op.specs.declared.Operand.TheVariants as O
 use Rattle.op.specs.declared.Refusal.{Refusal}
 use Rattle.op.specs.declared.Refusal.TheVariants.{Full}
 use Rattle.op.specs.declared.Shape.{Shape}
-use Rattle.op.specs.declared.Shaped.{Shaped}
-use Rattle.op.specs.declared.Shaped.TheVariants as P
 use Rattle.op.specs.declared.Table.TheVariants.{Code}
 use Rattle.code.specs.Decode.{names_in}
 use Rattle.code.specs.Encode.{encode, written_of, filled, Writes}
-use Rattle.code.specs.declared.Written.{Written}
-use Rattle.code.specs.declared.Written.TheVariants.{Size, Refused}
 use Rattle.code.proofs.Decoding.{shape_known}
 use Rattle.code.proofs.Inverse.{length_encode}
 use Rattle.code.proofs.Ranges.{InRange}
@@ -42,9 +39,9 @@ use Rattle.readback.proofs.Speaking.{length_wholes, length_signs, drop_signs}
 
 -- the bytes of an instruction
 
-abbrev pub line_by : Written → Result ℕ Refusal
-line_by (Size z) = Ok z
-line_by (Refused r) = Err r
+abbrev pub line_by : Result ℕ Refusal → Result ℕ Refusal
+line_by (Ok z) = Ok z
+line_by (Err r) = Err r
 
 module _ (k : ℕ) (o : Operand) (names : List ℕ) (s : Storable k o names) where
   abbrev Bytes : List ℕ
@@ -52,7 +49,7 @@ module _ (k : ℕ) (o : Operand) (names : List ℕ) (s : Storable k o names) whe
 
   written_is : (room : ℕ)
       → written_of k o (length names) room
-      ≡ cond (leb (length Bytes) room) (Size (length Bytes)) (Refused (Full Code))
+      ≡ cond (leb (length Bytes) room) (Ok (length Bytes)) (Err (Full Code))
   written_is room = by (dec_lt room (length Bytes))
     where
       size : length Bytes ≡ size_of (operand_shape o) (length names)
@@ -60,7 +57,7 @@ module _ (k : ℕ) (o : Operand) (names : List ℕ) (s : Storable k o names) whe
 
       by : Dec (room < length Bytes)
           → written_of k o (length names) room
-          ≡ cond (leb (length Bytes) room) (Size (length Bytes)) (Refused (Full Code))
+          ≡ cond (leb (length Bytes) room) (Ok (length Bytes)) (Err (Full Code))
       by (yes h) =
           rw (lt-leb (length Bytes) room h)
           (sym (written_full k o (length names) room (operand_shape o) s.well.shape s.few refl s.well.count
@@ -70,16 +67,16 @@ module _ (k : ℕ) (o : Operand) (names : List ℕ) (s : Storable k o names) whe
           (sym (written_size k o (length names) room (operand_shape o) s.well.shape s.few refl s.well.count
           (length Bytes) size (omega arith)))
 
-  pub lays_store : (old out : List ℕ) (w : Written) → Writes k o names old w out → (l : Result ℕ Refusal) → l ≡ line_by w
+  pub lays_store : (old out : List ℕ) (w : Result ℕ Refusal) → Writes k o names old w out → (l : Result ℕ Refusal) → l ≡ line_by w
       → Lays (stored_as Bytes (length old)) old l out
   unfolding stored_as
   lays_store old out w x l e =
       let is = written_is (length old) in
       by (leb (length Bytes) (length old)) (e ∙ ap line_by (x.answers ∙ is))
-      (x.cells ∙ ap (λ (y : Written). filled y Bytes old) is)
+      (x.cells ∙ ap (λ (y : Result ℕ Refusal). filled y Bytes old) is)
     where
-      by : (b : Bool) → l ≡ line_by (cond b (Size (length Bytes)) (Refused (Full Code)))
-          → out ≡ filled (cond b (Size (length Bytes)) (Refused (Full Code))) Bytes old
+      by : (b : Bool) → l ≡ line_by (cond b (Ok (length Bytes)) (Err (Full Code)))
+          → out ≡ filled (cond b (Ok (length Bytes)) (Err (Full Code))) Bytes old
           → Lays (cond b (Good Bytes) (Bad (Full Code))) old l out
       by true p q = record { answers = p; cells = q }
       by false p q = record { answers = p; cells = q }
@@ -94,20 +91,20 @@ neither : (b : Bool) (x : Option Said) → x ≡ none → cond b x none ≡ none
 neither true x e = e
 neither false x e = refl
 
-known_shape : (k : ℕ) (s : Shape) → shape_of k ≡ P.Is s → known k ≡ true
+known_shape : (k : ℕ) (s : Shape) → shape_of k ≡ Ok s → known k ≡ true
 unfolding known
 known_shape k s e = le-leb k last_opcode (shape_known k s e)
 
 module _ (k : ℕ) (zs : Option (List ℤ)) where
-  pub said_unknown : (r : Refusal) → shape_of k ≡ P.Refused r → said_in k zs ≡ none
+  pub said_unknown : (r : Refusal) → shape_of k ≡ Err r → said_in k zs ≡ none
   unfolding said_in and_then
   said_unknown r e = neither (known k) (and_then zs (said_by (shape_of k))) (rw e (by zs))
     where
-      by : (y : Option (List ℤ)) → and_then y (said_by (P.Refused r)) ≡ none
+      by : (y : Option (List ℤ)) → and_then y (said_by (Err r)) ≡ none
       by none = refl
       by (some l) = refl
 
-  module _ (s : Shape) (is : shape_of k ≡ P.Is s) where
+  module _ (s : Shape) (is : shape_of k ≡ Ok s) where
     pub said_none : and_then zs (operand_for s) ≡ none → said_in k zs ≡ none
     unfolding said_in
     said_none e = neither (known k) (and_then zs (said_by (shape_of k))) (rw is e)
@@ -136,13 +133,13 @@ module _ (k : ℕ) (zs : Option (List ℤ)) where
   few_names (O.CallAttrKw a p n) r = omega (arith, r.2)
   few_names (O.U16U16U8 a b c) r = omega arith
 
-  by_shape : (x : Said) (l : List ℤ) (p : Shaped) → shape_of k ≡ p → said_by p l ≡ some x
+  by_shape : (x : Said) (l : List ℤ) (p : Result Shape Refusal) → shape_of k ≡ p → said_by p l ≡ some x
       → Storable k x.operand x.names
-  by_shape x l (P.Refused r) e q = absurd (nothing q)
-  by_shape x l (P.Is s) e q =
+  by_shape x l (Err r) e q = absurd (nothing q)
+  by_shape x l (Ok s) e q =
       let y = said_only l x s q in
       record {
-        well = record { shape = e ∙ ap P.Is (sym y.shape); signs = y.signs; count = y.count };
+        well = record { shape = e ∙ ap Ok (sym y.shape); signs = y.signs; count = y.count };
         few = omega (arith, y.count, few_names x.operand y.range);
       }
 

@@ -1,12 +1,11 @@
 -- One line: refusals 24, 25 and 18, in this order (R68 to R71).
 -- Assumes nothing.
-use Rattle.std.specs.Prelude.{Bool, true, false, cond, ◌&&◌, List, ℕ, leb, eqb, ℤ, pos, negsuc, length}
+use Rattle.op.specs.declared.Shape.{Shape}
+use Rattle.std.specs.Prelude.{Bool, true, false, cond, ◌&&◌, List, ℕ, leb, eqb, ℤ, pos, negsuc, length, Ok, Err, Result}
 use Rattle.std.proofs.Math.Option.{Option, none, some}
 use Rattle.op.specs.Shapes.{shape_of}
 use Rattle.op.specs.declared.Refusal.{Refusal}
 use Rattle.op.specs.declared.Refusal.TheVariants.{Full, NotALine, Disagrees}
-use Rattle.op.specs.declared.Shaped.{Shaped}
-use Rattle.op.specs.declared.Shaped.TheVariants as P
 use Rattle.op.specs.declared.Table.TheVariants.{Code}
 use Rattle.code.specs.Encode.{encode}
 use Rattle.text.specs.Reading.{only_if, read_row}
@@ -26,9 +25,9 @@ alike (some y) none = false
 alike (some y) (some z) = true
 
 -- the numbers of an operand column, by the shape of the opcode
-abbrev pub said_by : Shaped → List ℤ → Option Said
-said_by (P.Is s) zs = operand_for s zs
-said_by (P.Refused r) zs = none
+abbrev pub said_by : Result Shape Refusal → List ℤ → Option Said
+said_by (Ok s) zs = operand_for s zs
+said_by (Err r) zs = none
 
 -- a row with what its operands say
 abbrev pub formed_by : Row → Said → Option Formed

@@ -8,8 +8,8 @@ ghost use Rattle.readback.specs.Lined.{Tells, Storable, Stores, Lines};
 
 use crate::naming::Names;
 use crate::{fields, numbers, operands, placing};
-use code::{Written, writer};
-use op::{Operand, Refusal, Shaped, shapes};
+use code::{writer};
+use op::{Operand, Refusal, shapes};
 
 // An instruction, whose keyword names stand in the cells from `names` to `count`.
 #[derive(Clone, Copy)]
@@ -27,7 +27,7 @@ fn instruction(name: &[u8], column: &[u8], cells: &mut [u16], names: &Names) -> 
 {
     let opcode = names.opcode(name);
     let shaped = shapes::operand_shape(opcode);
-    let Shaped::Is(shape) = shaped else {
+    let Ok(shape) = shaped else {
         return None;
     };
     let numbers = numbers::read(column, cells)?;
@@ -47,8 +47,8 @@ fn store(out: &mut [u8], opcode: u8, operand: Operand, names: &[u16]) -> Result<
 {
     let written = writer::write(out, opcode, operand, names);
     match written {
-        Written::Size(size) => Ok(size),
-        Written::Refused(refusal) => Err(refusal),
+        Ok(size) => Ok(size),
+        Err(refusal) => Err(refusal),
     }
 }
 

@@ -14,11 +14,7 @@ fn after(code: &[u8], at: usize, step: Step) -> usize
 {
     let end = code.len();
     match step {
-        Step::Instr {
-            opcode: _,
-            operand: _,
-            size,
-        } => {
+        Ok(Some(Instr { opcode: _, operand: _, size })) => {
             if at < end {
                 if size <= end - at {
                     return at + size;
@@ -26,8 +22,8 @@ fn after(code: &[u8], at: usize, step: Step) -> usize
             }
             at
         }
-        Step::End => at,
-        Step::Refused(_) => at,
+        Ok(None) => at,
+        Err(_) => at,
     }
 }
 

@@ -1,6 +1,9 @@
 -- The parts of a listing, one behind the other, are the listing.
 -- Assumes nothing.
-use Rattle.std.specs.Prelude.{Ok, Err}
+use Rattle.code.specs.Decode.{instr}
+use Rattle.code.specs.Decode.{Step}
+use Rattle.op.specs.Effects.{by}
+use Rattle.std.specs.Prelude.{Ok, Err, Some, None}
 use mathlib.Core.Path.{◌≡◌, refl, sym, ap, ◌∙◌, subst}
 use mathlib.Core.Bool.{Bool, true, false, cond}
 use mathlib.Core.List.{List, [], ◌∷◌, ◌++◌, append-nil, append_assoc}
@@ -18,8 +21,6 @@ use Rattle.op.specs.declared.Refusal.TheVariants.{Full}
 use Rattle.op.specs.declared.Table.TheVariants.{Text}
 use Rattle.code.specs.Decode.{decode}
 use Rattle.code.specs.Reading.{Spot, Read, instructions_from}
-use Rattle.code.specs.declared.Step.{Step}
-use Rattle.code.specs.declared.Step.TheVariants as S
 use Rattle.code.proofs.Decoding.{decode_end, decode_past}
 use Rattle.code.proofs.Instructions.{reads_end}
 use Rattle.text.specs.Fitting.{Listed, made, Line, line_to, text_of, Part, no_line, fit, said_of, listed_of, listed_in}
@@ -175,7 +176,7 @@ module _ (first depths code : List ℕ) (cells : length depths ≤ suc (length c
   end_is at = refl
 
   -- the end is at the end
-  ended : (at : ℕ) → decode last_opcode at (drop at code) ≡ S.End → length code ≤ at
+  ended : (at : ℕ) → decode last_opcode at (drop at code) ≡ (Ok None) → length code ≤ at
   ended at d = omega (arith, length-drop at code, decode_end last_opcode at (drop at code) d)
 
   -- a line that is the last
@@ -193,12 +194,12 @@ module _ (first depths code : List ℕ) (cells : length depths ≤ suc (length c
   by_step : (at : ℕ) (l : Line) (ls : List Line) (s : Step) → decode last_opcode at (drop at code) ≡ s
       → lines_from depths code at ≡ l ∷ ls
       → lines_at first depths code l.next ≡ ls
-  by_step at l ls (S.Instr k o z) d e =
+  by_step at l ls (Ok (Some (instr k o z))) d e =
       let f = sym (from_line depths code at k o z d) ∙ e in
       ap (λ (m : ℕ). lines_at first depths code m) (sym (cons_next f)) ∙ cons_rest f
-  by_step at l ls S.End d e =
+  by_step at l ls (Ok None) d e =
       at_end_lem at l ls (ended at d) (ltb at (length depths)) (sym (end_is at) ∙ sym (from_end depths code at d) ∙ e)
-  by_step at l ls (S.Refused r) d e =
+  by_step at l ls (Err r) d e =
       let here = faulted at (drop at code) r d in
       last at (line_of name_of at (drop at code)) (suc (at + length (drop at code))) l ls
       (omega (arith, here, length-drop at code)) (sym (from_fault depths code at r d) ∙ e)

@@ -1,5 +1,8 @@
 -- A line in its pieces is the line of the listing, and what is said of it.
 -- Assumes nothing.
+use Rattle.code.specs.Decode.{instr}
+use Rattle.code.specs.Decode.{Step}
+use Rattle.std.specs.Prelude.{Ok, Err, Some, None}
 use mathlib.Core.Path.{◌≡◌, sym, ap, ◌∙◌}
 use mathlib.Core.List.{List, [], ◌∷◌, ◌++◌, append_assoc}
 use Prim.Native.Nat.{ℕ, ◌≤◌, ◌<◌}
@@ -16,8 +19,6 @@ use Rattle.op.specs.declared.Refusal.TheVariants.{TooLarge}
 use Rattle.code.specs.Bytes.{words_in}
 use Rattle.code.specs.Decode.{decode, names_at}
 use Rattle.code.specs.Tables.{code_limit}
-use Rattle.code.specs.declared.Step.{Step}
-use Rattle.code.specs.declared.Step.TheVariants as S
 use Rattle.code.proofs.Decoding.{decoded_ends}
 use Rattle.text.specs.Decimal.{decimal}
 use Rattle.text.specs.Fields.{operands_at, line_text, fault_text, Found}
@@ -35,24 +36,24 @@ fault_parts at r = simp append_assoc
 
 -- the line of an instruction, and of a fault
 pub line_of_lem : (name : ℕ → List ℕ) (at : ℕ) (u : List ℕ) (k : ℕ) (o : Operand) (z : ℕ)
-    → decode last_opcode at u ≡ S.Instr k o z → line_of name at u ≡ line_text at (name k) o u
+    → decode last_opcode at u ≡ Ok (Some (instr k o z)) → line_of name at u ≡ line_text at (name k) o u
 unfolding line_of
 line_of_lem name at u k o z e =
     ap (λ (s : Step). line_by name at u s) e
     ∙ sym (regrouped (decimal at) (name k) (operands_at o u) (target_column (target_of at o)))
 
 -- with op's names it is the text of a row
-pub line_row : (at : ℕ) (u : List ℕ) (k : ℕ) (o : Operand) (z : ℕ) → decode last_opcode at u ≡ S.Instr k o z
+pub line_row : (at : ℕ) (u : List ℕ) (k : ℕ) (o : Operand) (z : ℕ) → decode last_opcode at u ≡ Ok (Some (instr k o z))
     → line_of name_of at u ≡ line (row_text (row_of at k o (words_in (names_at last_opcode u))))
 unfolding line_of row_text
 line_row at u k o z e = ap (λ (s : Step). line_by name_of at u s) e
 
-pub fault_of : (name : ℕ → List ℕ) (at : ℕ) (u : List ℕ) (r : Refusal) → decode last_opcode at u ≡ S.Refused r
+pub fault_of : (name : ℕ → List ℕ) (at : ℕ) (u : List ℕ) (r : Refusal) → decode last_opcode at u ≡ Err r
     → line_of name at u ≡ fault_line at r
 unfolding line_of
 fault_of name at u r e = ap (λ (s : Step). line_by name at u s) e
 
-pub no_line : (name : ℕ → List ℕ) (at : ℕ) (u : List ℕ) → decode last_opcode at u ≡ S.End → line_of name at u ≡ []
+pub no_line : (name : ℕ → List ℕ) (at : ℕ) (u : List ℕ) → decode last_opcode at u ≡ (Ok None) → line_of name at u ≡ []
 unfolding line_of
 no_line name at u e = ap (λ (s : Step). line_by name at u s) e
 
@@ -63,7 +64,7 @@ end_of at u = regrouped (decimal at) (ascii "end") (operands_at O.None u) (targe
 
 -- where an instruction is found
 pub found : (code : List ℕ) (at k : ℕ) (o : Operand) (z : ℕ) → length code ≤ code_limit
-    → decode last_opcode at (drop at code) ≡ S.Instr k o z → Found at o (drop at code)
+    → decode last_opcode at (drop at code) ≡ Ok (Some (instr k o z)) → Found at o (drop at code)
 found code at k o z h e =
     record { opcode = k; size = z; is = e; low = omega (arith, decoded_ends last_opcode at code k o z e) }
 

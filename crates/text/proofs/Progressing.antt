@@ -1,7 +1,10 @@
 -- Laws of the progress of a part: what a line more says, and what is said where the lines end.
 -- Assumes nothing.
+use Rattle.code.specs.Decode.{instr}
+use Rattle.code.specs.Decode.{Step}
+use Rattle.op.specs.Effects.{by}
 use Rattle.text.specs.Fitting.{Listed}
-use Rattle.std.specs.Prelude.{Ok, Err, Result}
+use Rattle.std.specs.Prelude.{Ok, Err, Result, Some, None}
 use mathlib.Core.Path.{◌≡◌, refl, sym, ap, ◌∙◌}
 use mathlib.Core.Bool.{Bool, true, false, cond}
 use mathlib.Core.List.{List, [], ◌∷◌, ◌++◌, append-nil}
@@ -21,8 +24,6 @@ use Rattle.op.specs.declared.Refusal.TheVariants.{Full}
 use Rattle.op.specs.declared.Table.TheVariants.{Text}
 use Rattle.code.specs.Decode.{decode}
 use Rattle.code.specs.Tables.{code_limit}
-use Rattle.code.specs.declared.Step.{Step}
-use Rattle.code.specs.declared.Step.TheVariants as S
 use Rattle.code.proofs.Decoding.{decoded_ends}
 use Rattle.reader.specs.Reader.{after_step}
 use Rattle.text.specs.Fitting.{Line, line_to, Part, no_line, onto, fit, said_of, listed_of, listed_in, Lists}
@@ -138,27 +139,27 @@ module _ (depths code : List ℕ) (at : ℕ) (old : List ℕ) (to : ℕ) (lent :
       → Told depths code at old to (went_by (placed_of old to (step_text (column_of depths at) at (drop at code) s)) at to
       (step_next (column_of depths at) at (drop at code) s) (step_more s))
       (written old to (step_text (column_of depths at) at (drop at code) s))
-  stepped (S.Instr k o z) e =
+  stepped (Ok (Some (instr k o z))) e =
       let d = decoded_ends last_opcode at code k o z e in
       let text = column_of depths at ++ line_of name_of at (drop at code) in
       went text (at + z) true (lines_from depths code (at + z)) (from_line depths code at k o z e) (omega (arith, d)) (λ m. (omega (arith, d), d.1))
       (λ m. sym (ap (λ (x : Step). after_step (length code) at x) e
       ∙ rw (le-leb z (length code - at) (omega (arith, d)))))
       (ap (λ (n : ℕ). fit n (suc (at + z)) (lines_from depths code (at + z))) (omega arith))
-  stepped S.End e = by (ltb at (length depths)) refl
+  stepped (Ok None) e = by (ltb at (length depths)) refl
     where
       by : (b : Bool) → ltb at (length depths) ≡ b
           → Told depths code at old to
-          (went_by (placed_of old to (step_text (column_of depths at) at (drop at code) S.End)) at to
-          (step_next (column_of depths at) at (drop at code) S.End) false)
-          (written old to (step_text (column_of depths at) at (drop at code) S.End))
+          (went_by (placed_of old to (step_text (column_of depths at) at (drop at code) (Ok None))) at to
+          (step_next (column_of depths at) at (drop at code) (Ok None)) false)
+          (written old to (step_text (column_of depths at) at (drop at code) (Ok None)))
       by true p =
           rw (le-leb 1 (length (column_of depths at)) (column_some depths at p))
           (went (column_of depths at ++ end_line at) (suc at) false [] (from_end depths code at e ∙ end_some depths at p)
           (omega (arith, lent.cells, leb-true (suc at) (length depths) p))
           ended ended (fit_none (room - length (column_of depths at ++ end_line at)) (suc (suc at))))
       by false p = rw (column_none depths at p) (none (from_end depths code at e ∙ end_none depths at p))
-  stepped (S.Refused r) e =
+  stepped (Err r) e =
       let here = faulted at (drop at code) r e in
       went (line_of name_of at (drop at code)) (suc (at + length (drop at code))) false []
       (from_fault depths code at r e) (omega (arith, here, length-drop at code))
@@ -280,7 +281,7 @@ lists_first {first} {depths} {code} {old} {mid} {out} {to} {answer} p g =
 
 -- the line of each step, as it is placed
 module _ (code : List ℕ) (at : ℕ) (front old : List ℕ) (to : ℕ) where
-  pub end_nothing : length front ≡ 0 → Steps front code at S.End old to
+  pub end_nothing : length front ≡ 0 → Steps front code at (Ok None) old to
       (record { at = at; to = to; more = false; full = false }) old
   unfolding placed_of written
   end_nothing h =
@@ -294,7 +295,7 @@ module _ (code : List ℕ) (at : ℕ) (front old : List ℕ) (to : ℕ) where
 
   pub end_placed : {p : Result ℕ Refusal} {out : List ℕ} → 0 < length front
       → Places old to (front ++ line_text at (ascii "end") O.None (drop at code)) p out
-      → Steps front code at S.End old to (went_by p at to (at + 1) false) out
+      → Steps front code at (Ok None) old to (went_by p at to (at + 1) false) out
   end_placed {p} {out} h q =
       let e : ltb 0 (length front) ≡ true = le-leb 1 (length front) h in
       let n : at + 1 ≡ suc at = omega arith in
@@ -304,9 +305,9 @@ module _ (code : List ℕ) (at : ℕ) (front old : List ℕ) (to : ℕ) where
         cells = rw e (rw t at q.cells);
       }
 
-  pub fault_placed : {p : Result ℕ Refusal} {out : List ℕ} (r : Refusal) → decode last_opcode at (drop at code) ≡ S.Refused r
+  pub fault_placed : {p : Result ℕ Refusal} {out : List ℕ} (r : Refusal) → decode last_opcode at (drop at code) ≡ Err r
       → Places old to (fault_line at r) p out
-      → Steps front code at (S.Refused r) old to (went_by p at to (length code + 1) false) out
+      → Steps front code at (Err r) old to (went_by p at to (length code + 1) false) out
   fault_placed {p} {out} r e q =
       let t = sym (fault_of name_of at (drop at code) r e) in
       let n : length code + 1 ≡ suc (at + length (drop at code)) = omega (arith, faulted at (drop at code) r e, length-drop at code) in
@@ -318,9 +319,9 @@ module _ (code : List ℕ) (at : ℕ) (front old : List ℕ) (to : ℕ) where
       }
 
   pub line_placed : {p : Result ℕ Refusal} {out : List ℕ} (k : ℕ) (o : Operand) (z : ℕ)
-      → decode last_opcode at (drop at code) ≡ S.Instr k o z
+      → decode last_opcode at (drop at code) ≡ Ok (Some (instr k o z))
       → Places old to (front ++ line_text at (name_by name_text name_starts k) o (drop at code)) p out
-      → Steps front code at (S.Instr k o z) old to (went_by p at to (at + z) true) out
+      → Steps front code at (Ok (Some (instr k o z))) old to (went_by p at to (at + z) true) out
   line_placed {p} {out} k o z e q =
       let t = sym (line_of_lem (name_by name_text name_starts) at (drop at code) k o z e) ∙ own_names at (drop at code) in
       record {

@@ -1,5 +1,9 @@
 -- The lines from offset 0 on, one behind the other behind the first, are the listing.
 -- Assumes nothing.
+use Rattle.code.specs.Decode.{instr}
+use Rattle.code.specs.Decode.{Step}
+use Rattle.op.specs.Effects.{by}
+use Rattle.std.specs.Prelude.{Ok, Err, Some, None}
 use mathlib.Core.Path.{◌≡◌, refl, sym, ap, ◌∙◌}
 use mathlib.Core.Bool.{Bool, true, false, cond}
 use mathlib.Core.List.{List, [], ◌∷◌, ◌++◌, append-nil, append_assoc}
@@ -17,14 +21,11 @@ use Rattle.op.specs.declared.Operand.{Operand}
 use Rattle.op.specs.declared.Refusal.{Refusal}
 use Rattle.op.specs.declared.Refusal.TheVariants.{TooLarge}
 use Rattle.op.specs.declared.Shape.{Shape}
-use Rattle.op.specs.declared.Shaped.TheVariants as P
 use Rattle.op.proofs.Effected.{shape_is}
 use Rattle.op.proofs.Listed.{known_row}
 use Rattle.op.proofs.Named.{name_by_lem}
 use Rattle.code.specs.Decode.{decode}
 use Rattle.code.specs.Reading.{Spot, Read, before, stops_at, spot_at, instructions_in}
-use Rattle.code.specs.declared.Step.{Step}
-use Rattle.code.specs.declared.Step.TheVariants as S
 use Rattle.code.proofs.Decoding.{decoded}
 use Rattle.code.proofs.Instructions.{read_from, reads_on, reads_end, reads_fault}
 use Rattle.text.specs.Fields.{line_text}
@@ -33,7 +34,7 @@ use Rattle.text.specs.Listing.{lines_of, listing_of, rest_of}
 use Rattle.text.proofs.Lining.{line_of_lem, fault_of, no_line}
 
 -- where a fault is, there is a byte
-pub faulted : (at : ℕ) (u : List ℕ) (r : Refusal) → decode last_opcode at u ≡ S.Refused r → 0 < length u
+pub faulted : (at : ℕ) (u : List ℕ) (r : Refusal) → decode last_opcode at u ≡ Err r → 0 < length u
 unfolding decode
 faulted at [] r e = clash cc
 faulted at (k ∷ u) r e = omega arith
@@ -72,27 +73,27 @@ rest_is code at small = rw (le-leb (length code) most small)
 
 module _ (code : List ℕ) (at : ℕ) (small : length code ≤ most) where
   -- an instruction's line, and the lines behind it
-  pub rest_line : (k : ℕ) (o : Operand) (z : ℕ) → decode last_opcode at (drop at code) ≡ S.Instr k o z
+  pub rest_line : (k : ℕ) (o : Operand) (z : ℕ) → decode last_opcode at (drop at code) ≡ Ok (Some (instr k o z))
       → rest_of code at ≡ line_of name_of at (drop at code) ++ rest_of code (at + z)
   rest_line k o z e =
       let u = drop at code in
       let more = read_from last_opcode code (at + z) in
-      let here = line_is at u (S.Instr k o z) e in
+      let here = line_is at u (Ok (Some (instr k o z))) e in
       let later = rest_is code (at + z) small in
       rest_is code at small ∙ ap lines_of (reads_on last_opcode code at k o z e)
       ∙ line_before (spot_at last_opcode at u k o z) more
       ∙ sym (ap (λ (l : List ℕ). l ++ rest_of code (at + z)) here
-      ∙ ap (λ (l : List ℕ). line_by name_of at u (S.Instr k o z) ++ l) later)
+      ∙ ap (λ (l : List ℕ). line_by name_of at u (Ok (Some (instr k o z))) ++ l) later)
 
   -- a fault's line is the last
-  pub rest_fault : (r : Refusal) → decode last_opcode at (drop at code) ≡ S.Refused r
+  pub rest_fault : (r : Refusal) → decode last_opcode at (drop at code) ≡ Err r
       → rest_of code at ≡ line_of name_of at (drop at code)
   rest_fault r e =
       rest_is code at small ∙ ap lines_of (reads_fault last_opcode code at r e) ∙ lines_stop at (some r)
-      ∙ sym (line_is at (drop at code) (S.Refused r) e)
+      ∙ sym (line_is at (drop at code) (Err r) e)
 
   -- at the end there is none
-  pub rest_end : decode last_opcode at (drop at code) ≡ S.End → rest_of code at ≡ []
+  pub rest_end : decode last_opcode at (drop at code) ≡ (Ok None) → rest_of code at ≡ []
   rest_end e = rest_is code at small ∙ ap lines_of (reads_end last_opcode code at e) ∙ lines_stop at none
 
 -- and in code that is too long
@@ -101,17 +102,17 @@ unfolding rest_of
 rest_large code at h = rw (lt-leb (length code) most h)
 
 -- op's names are found in its own text
-pub known_below : (k : ℕ) (s : Shape) → shape_of k ≡ P.Is s → k < length table
+pub known_below : (k : ℕ) (s : Shape) → shape_of k ≡ Ok s → k < length table
 known_below k s e = (known_row k).0 (shape_is k s e).0
 
 pub own_names : (at : ℕ) (u : List ℕ) → line_of (name_by name_text name_starts) at u ≡ line_of name_of at u
 own_names at u = by (decode last_opcode at u) refl
   where
     by : (s : Step) → decode last_opcode at u ≡ s → line_of (name_by name_text name_starts) at u ≡ line_of name_of at u
-    by (S.Instr k o z) e =
+    by (Ok (Some (instr k o z))) e =
         let d = decoded last_opcode at u k o z e in
         line_of_lem (name_by name_text name_starts) at u k o z e
         ∙ ap (λ (n : List ℕ). line_text at n o u) (name_by_lem k (known_below k (operand_shape o) d.shape))
         ∙ sym (line_of_lem name_of at u k o z e)
-    by S.End e = no_line (name_by name_text name_starts) at u e ∙ sym (no_line name_of at u e)
-    by (S.Refused r) e = fault_of (name_by name_text name_starts) at u r e ∙ sym (fault_of name_of at u r e)
+    by (Ok None) e = no_line (name_by name_text name_starts) at u e ∙ sym (no_line name_of at u e)
+    by (Err r) e = fault_of (name_by name_text name_starts) at u r e ∙ sym (fault_of name_of at u r e)

@@ -1,12 +1,12 @@
 -- The pieces in which a line is written, and what their writers ask; no rule says anything of them.
 -- Assumes nothing.
-use Rattle.std.specs.Prelude.{◌≡◌, List, [], ◌∷◌, ◌++◌, ℕ, ◌≤◌, length}
+use Rattle.code.specs.Decode.{instr}
+use Rattle.std.specs.Prelude.{◌≡◌, List, [], ◌∷◌, ◌++◌, ℕ, ◌≤◌, length, Ok, Some}
 use Rattle.op.specs.Opcodes.{last_opcode}
 use Rattle.op.specs.declared.Operand.{Operand}
 use Rattle.code.specs.Bytes.{words_in}
 use Rattle.code.specs.Decode.{decode, names_at}
 use Rattle.code.specs.Tables.{code_limit}
-use Rattle.code.specs.declared.Step.TheVariants.{Instr}
 use Rattle.text.specs.Decimal.{decimal}
 use Rattle.text.specs.Parts.{led}
 use Rattle.text.specs.Row.{wholes, whole_texts, operands_of, target_of, operand_column, target_column}
@@ -47,7 +47,7 @@ fault_text at n = 33 ∷ 9 ∷ (front_text at ++ (decimal n ++ (10 ∷ [])))
 pub record Found (at : ℕ) (o : Operand) (u : List ℕ) : Type 0 where
   pub opcode : ℕ
   pub size : ℕ
-  pub is : decode last_opcode at u ≡ Instr opcode o size
+  pub is : decode last_opcode at u ≡ Ok (Some (instr opcode o size))
   pub low : at ≤ code_limit
 
 -- an offset of a code, and an operand that has room behind a name

@@ -1,15 +1,14 @@
 -- What the functions that make a part of a listing promise each other.
 -- Assumes nothing.
+use Rattle.code.specs.Decode.{Step}
 use Rattle.text.specs.Fitting.{Listed}
 use Rattle.op.specs.declared.Refusal.{Refusal}
-use Rattle.std.specs.Prelude.{◌≡◌, Bool, true, false, cond, List, [], ◌++◌, ℕ, suc, ◌+◌, ◌-◌, ◌≤◌, ◌<◌, ltb, length, drop, Ok, Err, Result}
+use Rattle.std.specs.Prelude.{◌≡◌, Bool, true, false, cond, List, [], ◌++◌, ℕ, suc, ◌+◌, ◌-◌, ◌≤◌, ◌<◌, ltb, length, drop, Ok, Err, Result, Some, None}
 use Rattle.std.proofs.lemmas.List.Edits.{sets}
 use Rattle.op.specs.Names.{name_of, name_text, name_starts}
 use Rattle.op.specs.Opcodes.{last_opcode}
 use Rattle.code.specs.Decode.{decode}
 use Rattle.code.specs.Tables.{code_limit}
-use Rattle.code.specs.declared.Step.{Step}
-use Rattle.code.specs.declared.Step.TheVariants as S
 use Rattle.reader.specs.Reader.{after_step}
 use Rattle.text.specs.Fitting.{Part, no_line, onto, fit, said_of}
 use Rattle.text.specs.Lines.{end_line, lines_from}
@@ -24,19 +23,19 @@ went_by (Err r) at to next more = record { at = at; to = to; more = false; full 
 
 -- the line of a step behind a column, where it goes on, and whether there may be more
 abbrev pub step_text : List ℕ → ℕ → List ℕ → Step → List ℕ
-step_text front at u (S.Instr k o size) = front ++ line_of name_of at u
-step_text front at u S.End = cond (ltb 0 (length front)) (front ++ end_line at) []
-step_text front at u (S.Refused r) = line_of name_of at u
+step_text front at u (Ok (Some i)) = front ++ line_of name_of at u
+step_text front at u (Ok None) = cond (ltb 0 (length front)) (front ++ end_line at) []
+step_text front at u (Err r) = line_of name_of at u
 
 abbrev pub step_next : List ℕ → ℕ → List ℕ → Step → ℕ
-step_next front at u (S.Instr k o size) = at + size
-step_next front at u S.End = cond (ltb 0 (length front)) (suc at) at
-step_next front at u (S.Refused r) = suc (at + length u)
+step_next front at u (Ok (Some i)) = at + i.size
+step_next front at u (Ok None) = cond (ltb 0 (length front)) (suc at) at
+step_next front at u (Err r) = suc (at + length u)
 
 abbrev pub step_more : Step → Bool
-step_more (S.Instr k o size) = true
-step_more S.End = false
-step_more (S.Refused r) = false
+step_more (Ok (Some i)) = true
+step_more (Ok None) = false
+step_more (Err r) = false
 
 -- the step is the one that stands there, the code is not too long, and the names are op's
 pub record Reading (code : List ℕ) (at : ℕ) (step : Step) (texts starts : List ℕ) : Type 0 where

@@ -1,6 +1,7 @@
 -- A whole listing: R55, R56; refusals 1, 10 and 22 (R27).
 -- Assumes nothing.
-use Rattle.std.specs.Prelude.{cond, List, [], ◌∷◌, ◌++◌, ℕ, leb, length, drop}
+use Rattle.code.specs.Decode.{Step}
+use Rattle.std.specs.Prelude.{cond, List, [], ◌∷◌, ◌++◌, ℕ, leb, length, drop, Ok, Err, Some, None}
 use Rattle.std.proofs.Math.Option.{Option, some, none}
 use Rattle.op.specs.Opcodes.{last_opcode}
 use Rattle.op.specs.Names.{ascii, name_of}
@@ -9,8 +10,6 @@ use Rattle.op.specs.declared.Refusal.{Refusal}
 use Rattle.op.specs.declared.Refusal.TheVariants.{TooLarge}
 use Rattle.code.specs.Decode.{decode}
 use Rattle.code.specs.Reading.{Spot, Read, spot_at, instructions_from, instructions_in}
-use Rattle.code.specs.declared.Step.{Step}
-use Rattle.code.specs.declared.Step.TheVariants as S
 use Rattle.text.specs.Decimal.{decimal}
 use Rattle.text.specs.Parts.{join}
 use Rattle.text.specs.Row.{row_of, fields_text}
@@ -39,9 +38,9 @@ spot_line name spot =
 
 -- the line of what a step finds at the front of u, the code from an offset on
 abbrev pub line_by : (name : ℕ → List ℕ) (at : ℕ) (u : List ℕ) (step : Step) → List ℕ
-line_by name at u (S.Instr k o size) = spot_line name (spot_at last_opcode at u k o size)
-line_by name at u S.End = []
-line_by name at u (S.Refused r) = fault_line at r
+line_by name at u (Ok (Some i)) = spot_line name (spot_at last_opcode at u i.opcode i.operand i.size)
+line_by name at u (Ok None) = []
+line_by name at u (Err r) = fault_line at r
 
 -- the line of what stands at the front of u
 unfoldable pub line_of : (name : ℕ → List ℕ) (at : ℕ) (u : List ℕ) → List ℕ

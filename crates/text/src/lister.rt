@@ -1,7 +1,6 @@
 // Line by line through a code, as far as the lent text has room.
 ghost use Rattle.std.specs.Prelude.{◌≡◌, false, List, [], ◌∷◌, ◌++◌, ◌≤◌, length};
 ghost use Rattle.op.specs.Names.{name_text, name_starts};
-ghost use Rattle.code.specs.declared.Step.TheVariants.{End};
 ghost use Rattle.text.specs.Lines.{depth_text, column_of};
 ghost use Rattle.text.specs.Inner.{went_by, Stepped, Steps, Lent, Told, Reading, Fills};
 ghost use Rattle.text.specs.Put.{Put};
@@ -67,7 +66,7 @@ fn column(depths: &[u32], at: usize, out: &mut [u8]) -> usize
 // The line of the code's end, where there is a column in front of it.
 fn end_line(code: &[u8], at: usize, front: &[u8], out: &mut [u8], to: usize) -> Progress
     requires { Stepped at front.now out.old to }
-    ensures { Steps front.now code.now at End out.old to result out.new }
+    ensures { Steps front.now code.now at (Ok None) out.old to result out.new }
 {
     if front.len() == 0 {
         return Progress {
@@ -96,17 +95,13 @@ fn step_line(
     ensures { Steps front.now code.now at step out.old to result out.new }
 {
     match step {
-        Step::Instr {
-            opcode,
-            operand,
-            size,
-        } => {
+        Ok(Some(Instr { opcode, operand, size })) => {
             let name = names::of_opcode(opcode, texts, starts);
             let placed = lines::line(code, at, operand, front, name, out, to);
             went(placed, at, to, at + size, true)
         }
-        Step::End => end_line(code, at, front, out, to),
-        Step::Refused(refusal) => {
+        Ok(None) => end_line(code, at, front, out, to),
+        Err(refusal) => {
             let placed = lines::fault(at, refusal, out, to);
             went(placed, at, to, code.len() + 1, false)
         }

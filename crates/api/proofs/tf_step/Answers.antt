@@ -9,5 +9,5 @@ use Rattle.api.proofs.tf_step.Goals as goal
 pub tell_instruction-requires : goal.tell_instruction-requires
 tell_instruction-requires c =
     let a = c.args in
-    let e = sym c.step_at.ensures ∙ c.in-Instr.is in
+    let e = sym c.step_at.ensures ∙ c.in-Ok-Some.is in
     (omega (arith, (decoded_ends _ a.at a.code.now _ _ _ e).1), omega (arith, (decoded _ a.at _ _ _ _ e).base))

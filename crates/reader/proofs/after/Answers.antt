@@ -1,6 +1,7 @@
 -- `reader::after` meets its contract: its tests are those of the definition, and at the code's end nothing is left of
 -- it.
 -- Assumes nothing.
+use Rattle.op.specs.Effects.{by}
 use mathlib.Core.Path.{◌≡◌, refl}
 use mathlib.Core.Bool.{Bool, true, false, cond}
 use Prim.Native.Nat.{ℕ, ◌+◌, ◌-◌, ◌≤◌}
@@ -17,10 +18,10 @@ stays size at z h = by (leb z (size - at)) refl
     by false e = refl
 
 pub returns-then-size-end : goal.returns-then-size-end
-returns-then-size-end c = rw (c.in-Instr.is, le-leb _ _ c.if-size-end.true)
+returns-then-size-end c = rw (c.in-Ok-Some.is, le-leb _ _ c.if-size-end.true)
 
 pub returns-else-size-end : goal.returns-else-size-end
-returns-else-size-end c = rw (c.in-Instr.is, lt-leb _ _ c.if-size-end.false)
+returns-else-size-end c = rw (c.in-Ok-Some.is, lt-leb _ _ c.if-size-end.false)
 
 pub returns-else-at-end : goal.returns-else-at-end
-returns-else-at-end c = rw c.in-Instr.is (stays _ _ _ (omega (arith, c.if-at-end.false)))
+returns-else-at-end c = rw c.in-Ok-Some.is (stays _ _ _ (omega (arith, c.if-at-end.false)))

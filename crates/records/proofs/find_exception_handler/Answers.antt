@@ -1,28 +1,27 @@
 -- The entry of row i contains the offset: it is the answer. It does not: the search goes on at the next row.
-use Rattle.std.proofs.Common.{◌≡◌, true, false, List, ℕ, ◌+◌, ◌<◌, ◌≤◌, length, drop, get_or, sym, ◌∙◌, add-one, drop-cons}
+use Rattle.std.proofs.Common.{◌≡◌, true, false, List, ℕ, ◌+◌, ◌<◌, ◌≤◌, length, drop, get_or, sym, ◌∙◌, add-one, drop-cons, Some, None}
 use lib.ListN.{drop_of_length-le}
 use mathlib.Core.Bool.{cond}
 use Rattle.code.specs.Entries.{contains, find_from}
 use Rattle.code.specs.declared.ExceptionEntry.{ExceptionEntry}
 use Rattle.code.specs.declared.HandlerKind.TheVariants.{Consuming}
-use Rattle.code.specs.declared.Found.TheVariants.{Row, Absent}
 use Rattle.records.proofs.find_exception_handler.Goals as goal
 
 -- what lies past the end
 abbrev none : ExceptionEntry
 none = record { start = 0; end = 0; handler = 0; stack_depth = 0; exception_stack_count = 0; kind = Consuming }
 
-at_end : (xs : List ExceptionEntry) (x i : ℕ) → length xs ≤ i → Absent ≡ find_from (drop i xs) x i
+at_end : (xs : List ExceptionEntry) (x i : ℕ) → length xs ≤ i → None ≡ find_from (drop i xs) x i
 unfolding find_from
 at_end xs x i h = rw (drop_of_length-le xs)
 
 one_on : (xs : List ExceptionEntry) (x i : ℕ) → i < length xs
-    → find_from (drop i xs) x i ≡ cond (contains (get_or xs i none) x) (Row i (get_or xs i none)) (find_from (drop (i + 1) xs) x (i + 1))
+    → find_from (drop i xs) x i ≡ cond (contains (get_or xs i none) x) (Some (i, (get_or xs i none))) (find_from (drop (i + 1) xs) x (i + 1))
 unfolding find_from
 one_on xs x i l = rw (drop-cons xs i none l, add-one i)
 
 hit : (xs : List ExceptionEntry) (x i : ℕ) → i < length xs → contains (get_or xs i none) x ≡ true
-    → Row i (get_or xs i none) ≡ find_from (drop i xs) x i
+    → Some (i, (get_or xs i none)) ≡ find_from (drop i xs) x i
 hit xs x i l e = rw (one_on xs x i l, e)
 
 missed : (xs : List ExceptionEntry) (x i : ℕ) → i < length xs → contains (get_or xs i none) x ≡ false

@@ -30,14 +30,14 @@ pub returns-in_err-numbers : goal.returns-in_err-numbers
 returns-in_err-numbers c =
     let a = c.args in
     let is = ap shape_of (sym c.opcode-opcode.ensures) ∙ sym c.operand_shape-shaped.ensures
-    ∙ c.in-Is.is in
+    ∙ c.in-Ok.is in
     let cells = c.read.new.cells in
     let unread = subst (λ (r : Maybe Numbers). Spells a.column.now r cells) c.in_err-numbers.was
     c.read.ensures in
     let gone : c.from_residual.result ≡ None = grind (arith, common_steps) in
     rw gone (
-    said_none (opcode_of a.name.now) (read_operands a.column.now) c.in-Is.shape is
-    (unread c.in-Is.shape))
+    said_none (opcode_of a.name.now) (read_operands a.column.now) c.in-Ok.shape is
+    (unread c.in-Ok.shape))
 
 pub slice_bounds-of_shape-end : goal.slice_bounds-of_shape-end
 slice_bounds-of_shape-end c =
@@ -56,12 +56,12 @@ slice_bounds-of_shape-end-2 c =
 pub returns-in_err-spoken : goal.returns-in_err-spoken
 returns-in_err-spoken c =
     let a = c.args in
-    let s = c.in-Is.shape in
+    let s = c.in-Ok.shape in
     let count = c.in_ok-numbers.numbers.count in
     let minus = c.in_ok-numbers.numbers.minus in
     let cells = c.read.new.cells in
     let is = ap shape_of (sym c.opcode-opcode.ensures) ∙ sym c.operand_shape-shaped.ensures
-    ∙ c.in-Is.is in
+    ∙ c.in-Ok.is in
     let spelt = subst (λ (r : Maybe Numbers). Spells a.column.now r cells) c.in_ok-numbers.was
     c.read.ensures in
     let none = spoken_none s minus (take count cells)
@@ -73,14 +73,14 @@ returns-in_err-spoken c =
 pub returns : goal.returns
 returns c =
     let a = c.args in
-    let s = c.in-Is.shape in
+    let s = c.in-Ok.shape in
     let count = c.in_ok-numbers.numbers.count in
     let minus = c.in_ok-numbers.numbers.minus in
     let cells = c.read.new.cells in
     let operand = c.in_ok-spoken.spoken.operand in
     let from = c.in_ok-spoken.spoken.names in
     let is = ap shape_of (sym c.opcode-opcode.ensures) ∙ sym c.operand_shape-shaped.ensures
-    ∙ c.in-Is.is in
+    ∙ c.in-Ok.is in
     let spelt = subst (λ (r : Maybe Numbers). Spells a.column.now r cells) c.in_ok-numbers.was
     c.read.ensures in
     let spoken = spoken_some s minus (take count cells) operand from
