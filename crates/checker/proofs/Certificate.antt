@@ -7,7 +7,6 @@ use Rattle.std.specs.Prelude.{Ok, Err, Result, Some, None}
 use mathlib.Core.Path.{◌≡◌, refl, sym, ap, subst, ◌∙◌}
 use mathlib.Core.Bool.{Bool, true, false, cond, ◌&&◌}
 use mathlib.Core.List.{List, ◌++◌}
-use mathlib.Core.Option.{some}
 use Prim.Native.Nat.{ℕ, suc, ◌+◌, ◌*◌, ◌/◌, ◌%◌, ◌≤◌, ◌<◌}
 use native.Mathlib.Omega.{arith}
 use native.Mathlib.Decide.{dec_lt}
@@ -59,7 +58,7 @@ kept_ok c o d (Err q) = true
 
 module _ (c : List ℕ) (d : ℕ) (change : Effect) where
   holds_in : (q : ℕ) (x : Result ℕ Refusal) → lead d change ≡ x → T (holds c q x)
-      → (e : ℕ) × (Leads d change e × (depth_in c q ≡ some e))
+      → (e : ℕ) × (Leads d change e × (depth_in c q ≡ Some e))
   holds_in q (Ok e) h t = (e, (h, depth_in_lem c q e (eqb→eq (cell c q) e t) (leads_is d change e h).1))
   holds_in q (Err r) h t = absurd t
 
@@ -174,7 +173,7 @@ module _ (last : ℕ) (s st c : List ℕ) (k : ℕ) (input : T (input_ok last s 
   deep_rest o h = and_right (has o (cell c o) (reached last s st k))
       (comes_to last s o && kept_ok c o (cell c o) (flow_of last o (drop o s))) (deep o h)
 
-  cell_derived : (o d : ℕ) → depth_in c o ≡ some d → Derived last s st o d
+  cell_derived : (o d : ℕ) → depth_in c o ≡ Some d → Derived last s st o d
   cell_derived o d e =
       let i = in_depth c o d e in
       let t = and_left (has o (cell c o) (reached last s st k))
@@ -182,12 +181,12 @@ module _ (last : ℕ) (s st c : List ℕ) (k : ℕ) (input : T (input_ok last s 
       subst (λ (x : ℕ). Derived last s st o x) i.0
       (reached_derived s st k o (cell c o) (has_in o (cell c o) (reached last s st k) t))
 
-  cell_place : (o d : ℕ) → depth_in c o ≡ some d → Place last s o × (d ≤ 65535)
+  cell_place : (o d : ℕ) → depth_in c o ≡ Some d → Place last s o × (d ≤ 65535)
   cell_place o d e =
       let i = in_depth c o d e in
       (comes_place last s o (and_left (comes_to last s o) (kept_ok c o (cell c o) (flow_of last o (drop o s))) (deep_rest o (omega arith))), i.1)
 
-  cell_kept : (o d : ℕ) (f : Flow) → depth_in c o ≡ some d → Stands last s o f → Kept (depth_in c) f o d
+  cell_kept : (o d : ℕ) (f : Flow) → depth_in c o ≡ Some d → Stands last s o f → Kept (depth_in c) f o d
   cell_kept o d f e h =
       let i = in_depth c o d e in
       let t = and_right (comes_to last s o) (kept_ok c o (cell c o) (flow_of last o (drop o s)))
@@ -195,7 +194,7 @@ module _ (last : ℕ) (s st c : List ℕ) (k : ℕ) (input : T (input_ok last s 
       subst (λ (x : ℕ). Kept (depth_in c) f o x) i.0
       (op_kept c o (cell c o) f (subst (λ (x : Flowing). T (kept_ok c o (cell c o) x)) h.is t))
 
-  start_held_lem : (o d : ℕ) → Begins st o d → depth_in c o ≡ some d
+  start_held_lem : (o d : ℕ) → Begins st o d → depth_in c o ≡ Some d
   start_held_lem o d B =
       let j = B.row in
       let l = B.inside in

@@ -4,7 +4,7 @@
 use mathlib.Core.Path.{◌≡◌, refl, sym, ap, ◌∙◌}
 use mathlib.Core.List.{List, [], ◌∷◌}
 use mathlib.Core.Logic.{◌⊎◌, inl, inr}
-use mathlib.Core.Option.{Option, some, none}
+use Rattle.std.specs.Prelude.{None, Option, Some}
 use Prim.Native.Nat.{ℕ, zero, suc, ◌≤◌, ◌<◌}
 use native.Mathlib.Decide.{dec_le}
 use native.Mathlib.Omega.{arith}
@@ -40,17 +40,17 @@ greater_chosen m x s = elim (dec_le x 65535) [
 
 record Tops (m : ℕ) (c : List ℕ) (g : ℕ) : Type 0 where
   over : m ≤ g
-  most : (o d : ℕ) → depth_in c o ≡ some d → d ≤ g
-  assigned : ((o : ℕ) × (depth_in c o ≡ some g)) ⊎ ((g ≡ m) × ((o d : ℕ) → depth_in c o ≡ some d → d < m))
+  most : (o d : ℕ) → depth_in c o ≡ Some d → d ≤ g
+  assigned : ((o : ℕ) × (depth_in c o ≡ Some g)) ⊎ ((g ≡ m) × ((o d : ℕ) → depth_in c o ≡ Some d → d < m))
 
-none_held : (o d : ℕ) → depth_in [] o ≡ some d → ⊥
+none_held : (o d : ℕ) → depth_in [] o ≡ Some d → ⊥
 unfolding depth_in
 none_held o d e = clash cc
 
 module _ (m x : ℕ) (c : List ℕ) (g : ℕ) (T : Tops (greater m x) c g) where
   -- what holds of the first cell and of those behind it holds of all
-  first_or : (P : ℕ → Type 0) → (x ≤ 65535 → P x) → ((o d : ℕ) → depth_in c o ≡ some d → P d)
-      → (o d : ℕ) → depth_in (x ∷ c) o ≡ some d → P d
+  first_or : (P : ℕ → Type 0) → (x ≤ 65535 → P x) → ((o d : ℕ) → depth_in c o ≡ Some d → P d)
+      → (o d : ℕ) → depth_in (x ∷ c) o ≡ Some d → P d
   unfolding depth_in
   first_or P here behind zero d e =
       let i = in_depth (x ∷ c) 0 d e in
@@ -58,7 +58,7 @@ module _ (m x : ℕ) (c : List ℕ) (g : ℕ) (T : Tops (greater m x) c g) where
       rw (← z) (here (omega (arith, z, i.1)))
   first_or P here behind (suc o) d e = behind o d e
 
-  behind_it : (o d : ℕ) → depth_in c o ≡ some d → depth_in (x ∷ c) (suc o) ≡ some d
+  behind_it : (o d : ℕ) → depth_in c o ≡ Some d → depth_in (x ∷ c) (suc o) ≡ Some d
   unfolding depth_in
   behind_it o d e = e
 
@@ -70,10 +70,10 @@ module _ (m x : ℕ) (c : List ℕ) (g : ℕ) (T : Tops (greater m x) c g) where
   }
     where
       by : ((greater m x ≡ x) × (x ≤ 65535)) ⊎ ((greater m x ≡ m) × (x ≤ 65535 → x < m))
-          → ((o : ℕ) × (depth_in c o ≡ some g))
-          ⊎ ((g ≡ greater m x) × ((o d : ℕ) → depth_in c o ≡ some d → d < greater m x))
-          → ((o : ℕ) × (depth_in (x ∷ c) o ≡ some g))
-          ⊎ ((g ≡ m) × ((o d : ℕ) → depth_in (x ∷ c) o ≡ some d → d < m))
+          → ((o : ℕ) × (depth_in c o ≡ Some g))
+          ⊎ ((g ≡ greater m x) × ((o d : ℕ) → depth_in c o ≡ Some d → d < greater m x))
+          → ((o : ℕ) × (depth_in (x ∷ c) o ≡ Some g))
+          ⊎ ((g ≡ m) × ((o d : ℕ) → depth_in (x ∷ c) o ≡ Some d → d < m))
       by w (inl i) = inl (suc i.0, behind_it i.0 g i.1)
       by (inl w) (inr i) = inl (0, depth_in_lem (x ∷ c) 0 g (sym (i.0 ∙ w.0)) (omega (arith, i.0, w.0, w.1)))
       by (inr w) (inr i) = inr (
@@ -97,13 +97,13 @@ greatest_in_lem c small = record { most = T.most; assigned = by T.assigned }
     T : Tops 0 c (greatest_in c)
     T = tops 0 c small
 
-    no_depth_lem : (x : Option ℕ) → ((d : ℕ) → x ≡ some d → d < 0) → x ≡ none
-    no_depth_lem none h = refl
-    no_depth_lem (some d) h = absurd (omega (arith, h d refl))
+    no_depth_lem : (x : Option ℕ) → ((d : ℕ) → x ≡ Some d → d < 0) → x ≡ None
+    no_depth_lem None h = refl
+    no_depth_lem (Some d) h = absurd (omega (arith, h d refl))
 
-    by : ((o : ℕ) × (depth_in c o ≡ some (greatest_in c)))
-        ⊎ ((greatest_in c ≡ 0) × ((o d : ℕ) → depth_in c o ≡ some d → d < 0))
-        → ((o : ℕ) × (depth_in c o ≡ some (greatest_in c))) ⊎ ((greatest_in c ≡ 0) × ((o : ℕ) → depth_in c o ≡ none))
+    by : ((o : ℕ) × (depth_in c o ≡ Some (greatest_in c)))
+        ⊎ ((greatest_in c ≡ 0) × ((o d : ℕ) → depth_in c o ≡ Some d → d < 0))
+        → ((o : ℕ) × (depth_in c o ≡ Some (greatest_in c))) ⊎ ((greatest_in c ≡ 0) × ((o : ℕ) → depth_in c o ≡ None))
     by (inl i) = inl i
     by (inr i) = inr (i.0, λ o. no_depth_lem (depth_in c o) (i.1 o))
 
@@ -111,11 +111,11 @@ greatest_in_lem c small = record { most = T.most; assigned = by T.assigned }
 pub greatest_one : {a b : ℕ → Option ℕ} {g h : ℕ} → ((o : ℕ) → a o ≡ b o) → Greatest a g → Greatest b h → g ≡ h
 greatest_one {a} {b} {g} {h} same A B = by A.assigned B.assigned
   where
-    not_none : {x : Option ℕ} {d : ℕ} → x ≡ some d → x ≡ none → ⊥
+    not_none : {x : Option ℕ} {d : ℕ} → x ≡ Some d → x ≡ None → ⊥
     not_none {x} {d} e n = clash cc
 
-    by : ((o : ℕ) × (a o ≡ some g)) ⊎ ((g ≡ 0) × ((o : ℕ) → a o ≡ none))
-        → ((o : ℕ) × (b o ≡ some h)) ⊎ ((h ≡ 0) × ((o : ℕ) → b o ≡ none)) → g ≡ h
+    by : ((o : ℕ) × (a o ≡ Some g)) ⊎ ((g ≡ 0) × ((o : ℕ) → a o ≡ None))
+        → ((o : ℕ) × (b o ≡ Some h)) ⊎ ((h ≡ 0) × ((o : ℕ) → b o ≡ None)) → g ≡ h
     by (inl i) (inl j) =
         let up = B.most i.0 g (sym (same i.0) ∙ i.1) in
         let down = A.most j.0 h (same j.0 ∙ j.1) in

@@ -5,7 +5,6 @@ use Rattle.std.specs.Prelude.{Option, None, Some, Result, Ok, Err}
 use mathlib.Core.Path.{◌≡◌, refl, sym, ap, subst, ◌∙◌}
 use mathlib.Core.List.{List}
 use mathlib.Core.Logic.{◌⊎◌, ⊎_elim, inl, inr}
-use mathlib.Core.Option.{some}
 use Prim.Native.Nat.{ℕ, suc, ◌+◌, ◌-◌, ◌*◌, ◌/◌, ◌%◌, ◌≤◌, ◌<◌}
 use native.Mathlib.Omega.{arith}
 use native.Mathlib.Decide.{ℕ_discrete}
@@ -33,7 +32,7 @@ use Rattle.checker.proofs.Holding.{depth_in_lem, in_depth, cell_in, all_are, hel
 use Rattle.checker.proofs.Growing.{says_on, says_stuck, says_map, grew_none, grew_then, marks_on, goes_map}
 
 -- what was respected stays so
-kept_on : (last : ℕ) (s c c' : List ℕ) (o d : ℕ) → ((q e : ℕ) → depth_in c q ≡ some e → depth_in c' q ≡ some e)
+kept_on : (last : ℕ) (s c c' : List ℕ) (o d : ℕ) → ((q e : ℕ) → depth_in c q ≡ Some e → depth_in c' q ≡ Some e)
     → KeptAt last s c o d → KeptAt last s c' o d
 kept_on last s c c' o d keeps K f h =
     let N = K f h in
@@ -77,7 +76,7 @@ module _ {last : ℕ} {s c w : List ℕ} {top at : ℕ} (R : Ready c w top) (dee
 
 pub record Beginning (st c₀ c w₀ w : List ℕ) (k top : ℕ) : Type 0 where
   pub grew : Grew c₀ c w₀ w 0 top
-  pub has : (j : ℕ) → j < k → depth_in c (get_or st (2 * j) 0) ≡ some (get_or st (2 * j + 1) 0)
+  pub has : (j : ℕ) → j < k → depth_in c (get_or st (2 * j) 0) ≡ Some (get_or st (2 * j + 1) 0)
   pub sound : (last : ℕ) (s : List ℕ) → Listed last s st → Sound last s st c₀ → Sound last s st c
 
 pub beginning_none : {c w : List ℕ} (st : List ℕ) → Ready c w 0 → Beginning st c c w w 0 0
@@ -102,9 +101,9 @@ module _ {st c₀ c w₀ w : List ℕ} {k top : ℕ} (A : Beginning st c₀ c w�
       let X = (B 0 st st).on t e in
       record {
         grew = grew_then A.grew X.grew;
-        has = below_more (λ j. depth_in c₁ (get_or st (2 * j) 0) ≡ some (get_or st (2 * j + 1) 0)) k
+        has = below_more (λ j. depth_in c₁ (get_or st (2 * j) 0) ≡ Some (get_or st (2 * j + 1) 0)) k
             (λ j l. X.grew.keeps (get_or st (2 * j) 0) _ (A.has j l))
-            (ap (depth_in c₁) (sym eo) ∙ X.has ∙ ap some ed);
+            (ap (depth_in c₁) (sym eo) ∙ X.has ∙ ap Some ed);
         sound = λ last s L S. ((B last s st).on t e).sound (from_start last s L) (A.sound last s L S);
       }
 
@@ -114,7 +113,7 @@ begun_on {st} {c₀} {c} A l last s = says_on (record {
   grew = A.grew;
   sound = A.sound last s;
   has = λ o d b. sym (ap (depth_in c) b.offset) ∙ A.has b.row (let h = b.inside in omega arith)
-      ∙ ap some b.depth;
+      ∙ ap Some b.depth;
 })
 
 -- the loop over the list
@@ -215,7 +214,7 @@ module _ {last : ℕ} {s c₀ c w w₁ : List ℕ} {j taken at : ℕ} (A : Drain
       X = (E s).on t refl
 
       -- what waited before is visited now, or waits still
-      waited : (o d : ℕ) → depth_in c o ≡ some d → Waits w (j + 1) o → KeptAt last s c₁ o d ⊎ Waits w₂ t o
+      waited : (o d : ℕ) → depth_in c o ≡ Some d → Waits w (j + 1) o → KeptAt last s c₁ o d ⊎ Waits w₂ t o
       waited o d h q = let l = q.1.0 in elim (ℕ_discrete q.0 j) [
         | yes z ↦ inl (
             let y : at ≡ o = T.is ∙ ap (entry w) (sym z) ∙ q.1.1 in
@@ -307,7 +306,7 @@ drained {top} A z = says_on (record {
 
 module _ {last : ℕ} {s st c w : List ℕ} (blank : c ≡ replicate (suc (length s)) 65536) (M : Marks last s w)
     (L : Listed last s st) (c₁ w₁ : List ℕ) (x : Result ℕ Reason) (B : Begun st c c₁ w w₁ x) where
-  no_depth_lem : (o d : ℕ) → depth_in c o ≡ some d → ⊥
+  no_depth_lem : (o d : ℕ) → depth_in c o ≡ Some d → ⊥
   no_depth_lem o d h = let e = all_are (suc (length s)) 65536 c blank o in omega (arith, in_depth c o d h)
 
   blank_sound : Sound last s st c

@@ -5,7 +5,6 @@ use Rattle.std.specs.Prelude.{Option, None, Some, Result, Ok, Err}
 use mathlib.Core.Path.{◌≡◌, refl, sym, ap, subst, ◌∙◌}
 use mathlib.Core.List.{List}
 use mathlib.Core.Logic.{◌⊎◌, ⊎_elim, inl, inr}
-use mathlib.Core.Option.{some}
 use Prim.Native.Nat.{ℕ, suc, ◌+◌, ◌*◌, ◌/◌, ◌%◌, ◌≤◌, ◌<◌}
 use native.Mathlib.Omega.{arith}
 use native.Mathlib.Decide.{ℕ_discrete}
@@ -103,7 +102,7 @@ module _ {c w : List ℕ} {top : ℕ} (R : Ready c w top) where
     }
 
     -- a cell that has a depth is another
-    apart : (q g : ℕ) → depth_in c q ≡ some g → q ≡ o → ⊥
+    apart : (q g : ℕ) → depth_in c q ≡ Some g → q ≡ o → ⊥
     apart q g k z =
         let i = in_depth c q g k in
         let y : cell c q ≡ cell c o = ap (cell c) z in

@@ -3,7 +3,7 @@
 use mathlib.Core.Path.{◌≡◌, refl, sym, ap, subst, ◌∙◌}
 use mathlib.Core.Bool.{Bool, true, false, cond}
 use mathlib.Core.List.{List, [], ◌∷◌, ◌++◌}
-use mathlib.Core.Option.{some, none}
+use Rattle.std.specs.Prelude.{None, Some}
 use Prim.Native.Nat.{ℕ, zero, suc, ◌+◌, ◌-◌, ◌≤◌, ◌<◌}
 use native.Mathlib.Omega.{arith}
 use native.Mathlib.Decide.{dec_lt, ℕ_discrete}
@@ -18,15 +18,15 @@ use Rattle.checker.specs.Cells.{cell, depth_in, held}
 
 -- cells as an assignment
 
-pub depth_in_lem : (c : List ℕ) (o d : ℕ) → cell c o ≡ d → d ≤ 65535 → depth_in c o ≡ some d
+pub depth_in_lem : (c : List ℕ) (o d : ℕ) → cell c o ≡ d → d ≤ 65535 → depth_in c o ≡ Some d
 unfolding depth_in
 depth_in_lem c o d e l = rw (e, le-leb d 65535 l)
 
-picked : (b : Bool) (x d : ℕ) → cond b (some x) none ≡ some d → (b ≡ true) × (x ≡ d)
+picked : (b : Bool) (x d : ℕ) → cond b (Some x) None ≡ Some d → (b ≡ true) × (x ≡ d)
 picked true x d e = (refl, cc)
 picked false x d e = clash cc
 
-pub in_depth : (c : List ℕ) (o d : ℕ) → depth_in c o ≡ some d → (cell c o ≡ d) × (d ≤ 65535)
+pub in_depth : (c : List ℕ) (o d : ℕ) → depth_in c o ≡ Some d → (cell c o ≡ d) × (d ≤ 65535)
 unfolding depth_in
 in_depth c o d e =
     let p = picked (leb (cell c o) 65535) (cell c o) d e in

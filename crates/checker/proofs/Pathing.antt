@@ -3,7 +3,7 @@
 -- Assumes nothing.
 use Rattle.code.specs.Decode.{instr}
 use Rattle.op.specs.declared.Effect.{Effect}
-use Rattle.std.specs.Prelude.{Ok, Err, Some, None, Result}
+use Rattle.std.specs.Prelude.{Ok, Err, Some, None, Result, Option}
 use mathlib.Core.Path.{◌≡◌, refl, sym, ap, subst, ◌∙◌}
 use mathlib.Core.Bool.{Bool, true, false, cond, not}
 use mathlib.Core.List.Memᴰ.{head as mhead}
@@ -11,7 +11,6 @@ use mathlib.Core.List.Memᴰ.{tail as mtail}
 use mathlib.Core.List.{List, [], ◌∷◌, Memᴰ as Mem}
 use mathlib.Core.List.Memᴰ
 use mathlib.Core.Logic.{⊎_elim, inl, inr}
-use mathlib.Core.Option.{Option, some, none}
 use Prim.Native.Nat.{ℕ, suc, ◌+◌, ◌-◌}
 use native.Mathlib.Omega.{arith}
 use lib.Dec.{ltb, leb, eqb}
@@ -148,7 +147,7 @@ module _ {last : ℕ} {s st : List ℕ} {a : ℕ → Option ℕ} (A : Assigns la
   record Agrees (x : Point) : Type 0 where
     depth : ℕ
     is : x.depth ≡ pos depth
-    has : a x.offset ≡ some depth
+    has : a x.offset ≡ Some depth
 
   fall_agrees : (x y : Point) → Agrees x → FallsThrough last s x y → Agrees y
   fall_agrees x y G F =
@@ -197,7 +196,7 @@ module _ {last : ℕ} {s st : List ℕ} {a : ℕ → Option ℕ} (A : Assigns la
   -- a derived depth has a path
 
   -- the instruction at a place
-  abbrev place_met : {o d : ℕ} (k : ℕ) (p : Operand) (z : ℕ) → a o ≡ some d → decode last o (drop o s) ≡ Ok (Some (instr k p z))
+  abbrev place_met : {o d : ℕ} (k : ℕ) (p : Operand) (z : ℕ) → a o ≡ Some d → decode last o (drop o s) ≡ Ok (Some (instr k p z))
       → Met last s o
   place_met {o} {d} k p z h e = record {
     spot = spot_at last o (drop o s) k p z;
@@ -205,7 +204,7 @@ module _ {last : ℕ} {s st : List ℕ} {a : ℕ → Option ℕ} (A : Assigns la
     here = refl;
   }
 
-  falls_point : {o d q e : ℕ} {f : Flow} → a o ≡ some d → Stands last s o f → f.falls ≡ true → Leads d f.net e
+  falls_point : {o d q e : ℕ} {f : Flow} → a o ≡ Some d → Stands last s o f → f.falls ≡ true → Leads d f.net e
       → o + f.size ≡ q → FallsThrough last s (point o d) (point q e)
   falls_point {o} {d} {q} {e} {f} h st fl l w =
       let g = flowed last o s f st.is in
@@ -238,7 +237,7 @@ module _ {last : ℕ} {s st : List ℕ} {a : ℕ → Option ℕ} (A : Assigns la
   to_offset next end t (O.CallAttrKw x y z) e = clash cc
   to_offset next end t (O.U16U16U8 x y z) e = clash cc
 
-  jumps_point : {o d q e : ℕ} {f : Flow} → a o ≡ some d → Stands last s o f → f.goal ≡ To q → Leads d f.taken e
+  jumps_point : {o d q e : ℕ} {f : Flow} → a o ≡ Some d → Stands last s o f → f.goal ≡ To q → Leads d f.taken e
       → TakesJump last s (point o d) (point q e)
   jumps_point {o} {d} {q} {e} {f} h st to l =
       let g = flowed last o s f st.is in
@@ -283,7 +282,7 @@ module _ {last : ℕ} {s st : List ℕ} {a : ℕ → Option ℕ} (A : Assigns la
   derived_start (fall D h fl l w) n = derived_start D n
   derived_start (jump D h g l) n = derived_start D n
 
-  module _ (D : (o d : ℕ) → a o ≡ some d → Derived last s st o d) (g : ℕ) (G : Greatest a g) where
+  module _ (D : (o d : ℕ) → a o ≡ Some d → Derived last s st o d) (g : ℕ) (G : Greatest a g) where
     no_start : ((o d : ℕ) → Begins st o d → ⊥) → g ≡ 0
     no_start n = ⊎_elim (λ i. absurd (derived_start (D i.0 g i.1) n)) (λ i. i.0) G.assigned
 
@@ -295,7 +294,7 @@ module _ {last : ℕ} {s st : List ℕ} {a : ℕ → Option ℕ} (A : Assigns la
         (R.way, point i.0 g, R.path, R.in_it, refl))
         (λ i. absurd (not_none (A.starts o d b) (i.1 o))) G.assigned
       where
-        not_none : {x : Option ℕ} → x ≡ some d → x ≡ none → ⊥
+        not_none : {x : Option ℕ} → x ≡ Some d → x ≡ None → ⊥
         not_none {x} e n = clash cc
 
     enough : Enough last s st g

@@ -4,13 +4,12 @@
 use Rattle.code.specs.Flow.{Flowing}
 use Rattle.op.specs.Effects.{by}
 use Rattle.op.specs.declared.Effect.{Effect}
-use Rattle.std.specs.Prelude.{Ok, Err, Some, None, Result}
+use Rattle.std.specs.Prelude.{Ok, Err, Some, None, Result, Option}
 use mathlib.Core.Path.{◌≡◌, refl, sym, ap, subst, ◌∙◌}
 use mathlib.Core.Bool.{Bool, true, false, cond, ◌||◌}
 use mathlib.Core.List.Memᴰ
 use mathlib.Core.List.{List, [], ◌∷◌, ◌++◌, Memᴰ}
 use mathlib.Core.Logic.{⊎_elim}
-use mathlib.Core.Option.{Option, some, none}
 use Prim.Native.Nat.{ℕ, zero, suc, ◌+◌, ◌*◌}
 use native.Mathlib.Omega.{arith}
 use lib.Dec.{T, eqb, eqb→eq}
@@ -156,8 +155,8 @@ comes_place last s o t = record { is = is_in_lem o (places_in (instructions_in l
 
 -- it comes to the end
 abbrev none_met : Option Refusal → Bool
-none_met none = true
-none_met (some q) = false
+none_met None = true
+none_met (Some q) = false
 
 abbrev pub ends : ℕ → List ℕ → Bool
 ends last s = none_met (instructions_in last s).fault

@@ -7,7 +7,6 @@ use mathlib.Core.Path.{◌≡◌, ap, ◌∙◌}
 use mathlib.Core.Bool.{Bool, true, false, cond}
 use mathlib.Core.List.{List, [], ◌∷◌}
 use mathlib.Core.Logic.{◌⊎◌, ⊎_elim, inl, inr}
-use mathlib.Core.Option.{some}
 use Prim.Native.Nat.{ℕ}
 use lib.Dec.{leb}
 use lib.ListN.{length, drop}
@@ -60,8 +59,8 @@ decode_is last at (k ∷ u) q e = whole_is at (k ∷ u) q (shape_up_to last k) e
 pub fault_is : {last : ℕ} {s : List ℕ} {q : Refusal} → Faulty last s q → OfReading q
 fault_is {last} {s} {q} A = by_reading 0 A.is
   where
-    by_reading : (at : ℕ) → (read_from last s at).fault ≡ some q → OfReading q
-    by_reading = read_ind last s (λ at read. read.fault ≡ some q → OfReading q) (λ at k o z e later h. later h)
+    by_reading : (at : ℕ) → (read_from last s at).fault ≡ Some q → OfReading q
+    by_reading = read_ind last s (λ at read. read.fault ≡ Some q → OfReading q) (λ at k o z e later h. later h)
         (λ at e h. clash cc)
         (λ at r e h. decode_is last at (drop at s) q (let i : r ≡ q = cc in e ∙ ap Err i))
 

@@ -7,7 +7,6 @@ use mathlib.Core.Bool.{Bool, true, false, cond}
 use mathlib.Core.List.Memᴰ
 use mathlib.Core.List.{List, [], ◌∷◌, Memᴰ}
 use mathlib.Core.Logic.{⊎_elim}
-use mathlib.Core.Option.{some}
 use Prim.Native.Nat.{ℕ, zero, suc, ◌+◌, ◌-◌, ◌≤◌, ◌<◌}
 use native.Mathlib.Omega.{arith}
 use native.Mathlib.Nat.{le_of_suc-le-suc, not-suc-le-zero}
@@ -101,7 +100,7 @@ module _ {last : ℕ} {s st : List ℕ} (c : List ℕ) (whole : NoFault last s) 
   fits = length-take-le (length s) c (omega arith)
 
   counted_each : (o : ℕ) → Memᴰ o (offsets 0 (take (length s) c))
-      → (f : Flow) × (d : ℕ) × Place last s o × Stands last s o f × (depth_in c o ≡ some d)
+      → (f : Flow) × (d : ℕ) × Place last s o × Stands last s o f × (depth_in c o ≡ Some d)
   counted_each o m =
       let D = offsets_deep 0 (take (length s) c) o m in
       let z : D.steps ≡ o = omega (arith, D.is) in
@@ -113,7 +112,7 @@ module _ {last : ℕ} {s st : List ℕ} (c : List ℕ) (whole : NoFault last s) 
       let g = stands_by s o (flow_of last o (drop o s)) refl whole p l in
       (g.0, cell c o, p, g.1, e)
 
-  counted_all : (o d : ℕ) (f : Flow) → Place last s o → Stands last s o f → depth_in c o ≡ some d
+  counted_all : (o d : ℕ) (f : Flow) → Place last s o → Stands last s o f → depth_in c o ≡ Some d
       → Memᴰ o (offsets 0 (take (length s) c))
   counted_all o d f p h e =
       let i = stands_size h in

@@ -6,7 +6,6 @@ use Rattle.std.specs.Prelude.{Option, None, Some, Result, Ok, Err}
 use mathlib.Core.Path.{◌≡◌, refl, sym, subst, ◌∙◌}
 use mathlib.Core.Bool.{true, false}
 use mathlib.Core.List.{List}
-use mathlib.Core.Option.{some}
 use Prim.Native.Nat.{ℕ, ◌+◌, ◌*◌, ◌≤◌, ◌<◌}
 use native.Mathlib.Omega.{arith}
 use native.Mathlib.Decide.{dec_lt}
@@ -203,7 +202,7 @@ module _ (f : Flow) (c c₁ w w₁ : List ℕ) (top at d : ℕ) (x : Result ℕ 
         })
         (λ why B h S. B h.0 (X.sound h S)) (F last s st)
       where
-        jumps_on : ((o e : ℕ) → depth_in c₁ o ≡ some e → depth_in c₂ o ≡ some e) → Jumps (depth_in c₁) f d
+        jumps_on : ((o e : ℕ) → depth_in c₁ o ≡ Some e → depth_in c₂ o ≡ Some e) → Jumps (depth_in c₁) f d
             → Jumps (depth_in c₂) f d
         jumps_on keeps K =
             record { target = K.target; depth = K.depth; goes = K.goes; leads = K.leads; has = keeps _ _ K.has }

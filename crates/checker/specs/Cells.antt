@@ -1,7 +1,6 @@
 -- Cells of depths: "65,536 where there is no depth" (R50).
 -- Assumes nothing.
-use Rattle.std.specs.Prelude.{cond, List, [], ◌∷◌, ℕ, ◌+◌, leb, get_or}
-use Rattle.std.proofs.Math.Option.{Option, some, none}
+use Rattle.std.specs.Prelude.{cond, List, [], ◌∷◌, ℕ, ◌+◌, leb, get_or, None, Option, Some}
 use Rattle.op.specs.Depths.{deepest}
 use Rattle.code.specs.Tables.{no_depth}
 
@@ -11,7 +10,7 @@ cell c o = get_or c o no_depth
 
 -- the cells as an assignment
 unfoldable pub depth_in : List ℕ → ℕ → Option ℕ
-depth_in c o = cond (leb (cell c o) deepest) (some (cell c o)) none
+depth_in c o = cond (leb (cell c o) deepest) (Some (cell c o)) None
 
 -- how many cells hold a depth
 unfoldable pub held : List ℕ → ℕ

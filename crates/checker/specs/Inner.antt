@@ -4,7 +4,6 @@
 use Rattle.code.specs.Decode.{Step}
 use Rattle.op.specs.declared.Effect.{Effect}
 use Rattle.std.specs.Prelude.{◌≡◌, Bool, true, false, List, ◌⊎◌, ℕ, suc, ◌+◌, ◌-◌, ◌*◌, ◌/◌, ◌%◌, ◌≤◌, ◌<◌, max, length, get_or, set, replicate, Option, None, Some, Result, Ok, Err}
-use Rattle.std.proofs.Math.Option.{some}
 use Rattle.std.specs.List.{fold}
 use Rattle.op.specs.declared.Refusal.{Refusal}
 use Rattle.op.specs.declared.Refusal.TheVariants.{NoDepths}
@@ -32,8 +31,8 @@ greatest_in c = fold greater 0 c
 -- the depths so far: each is a place's, and derived
 pub record Sound (last : ℕ) (s st c : List ℕ) : Type 0 where
   pub small : (o : ℕ) → cell c o ≤ no_depth
-  pub place : (o d : ℕ) → depth_in c o ≡ some d → Place last s o
-  pub derived : (o d : ℕ) → depth_in c o ≡ some d → Derived last s st o d
+  pub place : (o d : ℕ) → depth_in c o ≡ Some d → Place last s o
+  pub derived : (o d : ℕ) → depth_in c o ≡ Some d → Derived last s st o d
 
 -- the instruction at o, if there is one, is respected with the depth d
 abbrev pub KeptAt : ℕ → List ℕ → List ℕ → ℕ → ℕ → Type 0
@@ -100,8 +99,8 @@ Passes w P (Err why) = P w (Err why)
 pub record Grew (c c' w w' : List ℕ) (top t : ℕ) : Type 0 where
   pub ready : Ready c' w' t
   pub size : length c' ≡ length c
-  pub keeps : (o d : ℕ) → depth_in c o ≡ some d → depth_in c' o ≡ some d
-  pub waits : (o d : ℕ) → depth_in c' o ≡ some d → (depth_in c o ≡ some d) ⊎ Waits w' t o
+  pub keeps : (o d : ℕ) → depth_in c o ≡ Some d → depth_in c' o ≡ Some d
+  pub waits : (o d : ℕ) → depth_in c' o ≡ Some d → (depth_in c o ≡ Some d) ⊎ Waits w' t o
   pub stays : (j : ℕ) → j < top → entry w' j ≡ entry w j
   pub marks : (j : ℕ) → get_or w' j 0 / place_mark ≡ get_or w j 0 / place_mark
   pub more : top ≤ t
@@ -129,7 +128,7 @@ Goes last s st G P c c' w w' top r =
 abbrev pub Asked : (c c' w w' : List ℕ) (top o d : ℕ) → Result ℕ Reason → Type 0
 Asked c c' w w' top o d r =
     (last : ℕ) (s st : List ℕ)
-    → Goes last s st (Place last s o × Derived last s st o d) (λ x. depth_in x o ≡ some d) c c' w w' top r
+    → Goes last s st (Place last s o × Derived last s st o d) (λ x. depth_in x o ≡ Some d) c c' w w' top r
 
 -- the same by work that has no list: with any list that is ready, what gets its depth is in hand
 abbrev pub Handed : (c c' : List ℕ) (o d : ℕ) → Result (Option ℕ) Reason → Type 0
@@ -173,7 +172,7 @@ StartsIn st c = (k : ℕ) → 2 * k + 1 < length st → (get_or st (2 * k + 1) 0
 
 -- the starts have their depths
 abbrev pub HasStarts : List ℕ → List ℕ → Type 0
-HasStarts st c = (o d : ℕ) → Begins st o d → depth_in c o ≡ some d
+HasStarts st c = (o d : ℕ) → Begins st o d → depth_in c o ≡ Some d
 
 abbrev pub Begun : (st c c' w w' : List ℕ) → Result ℕ Reason → Type 0
 Begun st c c' w w' r = (last : ℕ) (s : List ℕ) → Goes last s st (Listed last s st) (HasStarts st) c c' w w' 0 r
@@ -182,7 +181,7 @@ Begun st c c' w w' r = (last : ℕ) (s : List ℕ) → Goes last s st (Listed la
 pub record Loaded (last : ℕ) (s c w : List ℕ) (top : ℕ) : Type 0 where
   pub ready : Ready c w top
   pub marks : Marks last s w
-  pub waits : (o d : ℕ) → depth_in c o ≡ some d → Waits w top o
+  pub waits : (o d : ℕ) → depth_in c o ≡ Some d → Waits w top o
   pub weigh : top ≡ held c
 
 -- after k places were visited, all that has a depth is respected or waits; no place is visited twice, since those
@@ -191,9 +190,9 @@ pub record Draining (last : ℕ) (s c₀ c w : List ℕ) (top k : ℕ) : Type 0 
   pub ready : Ready c w top
   pub size : length c ≡ length c₀
   pub marks : Marks last s w
-  pub closing : (o d : ℕ) → depth_in c o ≡ some d → KeptAt last s c o d ⊎ Waits w top o
+  pub closing : (o d : ℕ) → depth_in c o ≡ Some d → KeptAt last s c o d ⊎ Waits w top o
   pub weigh : k + top ≡ held c
-  pub keeps : (o d : ℕ) → depth_in c₀ o ≡ some d → depth_in c o ≡ some d
+  pub keeps : (o d : ℕ) → depth_in c₀ o ≡ Some d → depth_in c o ≡ Some d
   pub sound : (st : List ℕ) → Sound last s st c₀ → Sound last s st c
 
 -- the same with a place in hand; `list` is the list as if the place stood on it
@@ -209,9 +208,9 @@ Followed last s c c' w' k (Err why) = (st : List ℕ) → Sound last s st c → 
 
 -- the list is empty, after k places were visited: the instructions are all respected
 pub record Emptied (last : ℕ) (s c c' : List ℕ) (k : ℕ) : Type 0 where
-  pub keeps : (o d : ℕ) → depth_in c o ≡ some d → depth_in c' o ≡ some d
+  pub keeps : (o d : ℕ) → depth_in c o ≡ Some d → depth_in c' o ≡ Some d
   pub sound : (st : List ℕ) → Sound last s st c → Sound last s st c'
-  pub kept : (o d : ℕ) → depth_in c' o ≡ some d → KeptAt last s c' o d
+  pub kept : (o d : ℕ) → depth_in c' o ≡ Some d → KeptAt last s c' o d
   pub count : k ≡ held c'
 
 abbrev pub Drained : (last : ℕ) (s c c' : List ℕ) → Result ℕ Reason → Type 0

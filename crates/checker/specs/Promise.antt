@@ -1,8 +1,7 @@
 -- What a check promises: R47 to R53, and R73 of the work slice. `last` is the last opcode of the table, s the code,
 -- st the starts, d the depth slice before and d' after, w the work slice before and w' after, r the answer.
 -- Assumes nothing.
-use Rattle.std.specs.Prelude.{◌≡◌, Bool, false, ◌&&◌, List, ◌++◌, ◌⊎◌, ℕ, suc, ◌+◌, ◌*◌, ◌%◌, ◌≤◌, ◌<◌, length, get_or, take, drop, replicate, Ok, Err, Result}
-use Rattle.std.proofs.Math.Option.{Option, some, none}
+use Rattle.std.specs.Prelude.{◌≡◌, Bool, false, ◌&&◌, List, ◌++◌, ◌⊎◌, ℕ, suc, ◌+◌, ◌*◌, ◌%◌, ◌≤◌, ◌<◌, length, get_or, take, drop, replicate, Ok, Err, Result, None, Option, Some}
 use Rattle.op.specs.Depths.{deepest}
 use Rattle.op.specs.Opcodes.{last_opcode}
 use Rattle.op.specs.declared.Refusal.{Refusal}
@@ -36,8 +35,8 @@ Unsolved last s st q = (q ≡ NoDepths) × Impossible last s st
 
 -- "the greatest depth that it assigned, 0 where it assigned none" (R75)
 pub record Greatest (a : ℕ → Option ℕ) (g : ℕ) : Type 0 where
-  pub most : (o d : ℕ) → a o ≡ some d → d ≤ g
-  pub assigned : ((o : ℕ) × (a o ≡ some g)) ⊎ ((g ≡ 0) × ((o : ℕ) → a o ≡ none))
+  pub most : (o d : ℕ) → a o ≡ Some d → d ≤ g
+  pub assigned : ((o : ℕ) × (a o ≡ Some g)) ⊎ ((g ≡ 0) × ((o : ℕ) → a o ≡ None))
 
 -- "The first code+1 cells then hold the smallest one, .. and 65,536 where there is no depth" (R50); each depth is
 -- derived, the answer counts the instructions that have one and says the greatest
@@ -45,7 +44,7 @@ pub record Solution (last : ℕ) (s st c : List ℕ) (a : Assignment) : Type 0 w
   pub size : length c ≡ suc (length s)
   pub smallest : Smallest last s st (depth_in c)
   pub others : (o : ℕ) → cell c o ≤ no_depth
-  pub derived : (o d : ℕ) → depth_in c o ≡ some d → Derived last s st o d
+  pub derived : (o d : ℕ) → depth_in c o ≡ Some d → Derived last s st o d
   pub count : Counts last s (depth_in c) a.count
   pub greatest : Greatest (depth_in c) a.greatest
 

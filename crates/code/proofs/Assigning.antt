@@ -3,11 +3,10 @@
 -- Assumes nothing.
 use Rattle.op.specs.declared.Effect.{Effect}
 use Rattle.op.specs.declared.Refusal.{Refusal}
-use Rattle.std.specs.Prelude.{Ok, Err, Result}
+use Rattle.std.specs.Prelude.{Ok, Err, Result, None, Option, Some}
 use mathlib.Core.Path.{◌≡◌, refl, sym, ap, subst, ◌∙◌}
 use mathlib.Core.Bool.{Bool, true, false, cond}
 use mathlib.Core.List.{List}
-use mathlib.Core.Option.{Option, some, none}
 use Prim.Native.Nat.{ℕ, ◌+◌, ◌-◌, ◌≤◌}
 use native.Mathlib.Omega.{arith}
 use lib.Dec.{leb}
@@ -53,17 +52,17 @@ leads_one d c e g h k = cc
 -- derived depths
 
 module _ {last : ℕ} {s st : List ℕ} {a : ℕ → Option ℕ} (A : Assigns last s st a) where
-  pub derived_in : {o d : ℕ} → Derived last s st o d → a o ≡ some d
+  pub derived_in : {o d : ℕ} → Derived last s st o d → a o ≡ Some d
   derived_in (start {o = o} {d = d} b) = A.starts o d b
   derived_in (fall {o = o} {d = d} {q = q} {e = e} {f = f} D h fl l w) =
       let K = (A.kept o d f (derived_in D) h).falls in
       let z : K.depth ≡ e = leads_one d f.net _ _ K.leads l in
-      subst (λ (x : ℕ). a x ≡ some e) w (K.has fl ∙ ap some z)
+      subst (λ (x : ℕ). a x ≡ Some e) w (K.has fl ∙ ap Some z)
   derived_in (jump {o = o} {d = d} {q = q} {e = e} {f = f} D h g l) =
       let K = (A.kept o d f (derived_in D) h).jumps (λ n. no_way n g) in
       let z : K.depth ≡ e = leads_one d f.taken _ _ K.leads l in
       let y : K.target ≡ q = same_target K.goes g in
-      subst (λ (x : ℕ). a x ≡ some e) y (K.has ∙ ap some z)
+      subst (λ (x : ℕ). a x ≡ Some e) y (K.has ∙ ap Some z)
     where
       no_way : f.goal ≡ Nowhere → f.goal ≡ To q → ⊥
       no_way n m = clash cc
@@ -73,14 +72,14 @@ module _ {last : ℕ} {s st : List ℕ} {a : ℕ → Option ℕ} (A : Assigns la
 
 -- derived and closed: the smallest
 pub smallest : {last : ℕ} {s st : List ℕ} {a : ℕ → Option ℕ} → Assigns last s st a
-    → ((o d : ℕ) → a o ≡ some d → Derived last s st o d) → Smallest last s st a
+    → ((o d : ℕ) → a o ≡ Some d → Derived last s st o d) → Smallest last s st a
 smallest A D = record { assigns = A; least = λ b B o d e. derived_in B (D o d e) }
 
 -- two smallest assignments agree
-agree : (x y : Option ℕ) → ((d : ℕ) → x ≡ some d → y ≡ some d) → ((d : ℕ) → y ≡ some d → x ≡ some d) → x ≡ y
-agree (some d) y to from = sym (to d refl)
-agree none (some d) to from = from d refl
-agree none none to from = refl
+agree : (x y : Option ℕ) → ((d : ℕ) → x ≡ Some d → y ≡ Some d) → ((d : ℕ) → y ≡ Some d → x ≡ Some d) → x ≡ y
+agree (Some d) y to from = sym (to d refl)
+agree None (Some d) to from = from d refl
+agree None None to from = refl
 
 pub smallest_agree : {last : ℕ} {s st : List ℕ} {a b : ℕ → Option ℕ} → Smallest last s st a → Smallest last s st b
     → (o : ℕ) → a o ≡ b o
@@ -93,7 +92,7 @@ module _ {last : ℕ} {s st : List ℕ} {o d : ℕ} (D : Derived last s st o d) 
   pub clash_depths : {e : ℕ} → Derived last s st o e → (d ≡ e → ⊥) → Impossible last s st
   clash_depths {e} E n a A = n (some_one (derived_in A D) (derived_in A E))
     where
-      some_one : a o ≡ some d → a o ≡ some e → d ≡ e
+      some_one : a o ≡ Some d → a o ≡ Some e → d ≡ e
       some_one p q = cc
 
   module _ {f : Flow} (h : Stands last s o f) where

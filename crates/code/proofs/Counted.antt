@@ -2,10 +2,9 @@
 -- Assumes nothing.
 use Rattle.code.specs.declared.Stopped.{Stopped}
 use Rattle.code.specs.Decode.{instr}
-use Rattle.std.specs.Prelude.{Ok, Err, Some, None, Result}
+use Rattle.std.specs.Prelude.{Ok, Err, Some, None, Result, Option}
 use mathlib.Core.Path.{◌≡◌, refl, sym, ap, ◌∙◌}
 use mathlib.Core.List.{List}
-use mathlib.Core.Option.{Option, some, none}
 use Prim.Native.Nat.{ℕ, suc, ◌+◌, ◌≤◌}
 use native.Mathlib.Nat.{zero-add, add-zero}
 use native.Mathlib.Omega.{arith}
@@ -58,9 +57,9 @@ stop_here last s at n fault c e =
 -- at the end
 pub counting_end : (last : ℕ) (s : List ℕ) (at n : ℕ) → Counting last s at n → decode last at (drop at s) ≡ Ok None
     → Ok n ≡ count_of last s
-counting_end last s at n c e = stop_here last s at n none c (reads_end last s at e)
+counting_end last s at n c e = stop_here last s at n None c (reads_end last s at e)
 
 -- at a fault
 pub counting_fault : (last : ℕ) (s : List ℕ) (at n : ℕ) (r : Refusal) → Counting last s at n
     → decode last at (drop at s) ≡ Err r → Err (record { count = n; refusal = r }) ≡ count_of last s
-counting_fault last s at n r c e = stop_here last s at n (some r) c (reads_fault last s at r e)
+counting_fault last s at n r c e = stop_here last s at n (Some r) c (reads_fault last s at r e)

@@ -6,7 +6,6 @@ use Rattle.code.specs.Decode.{Step}
 use Rattle.std.specs.Prelude.{Ok, Err, Some, None}
 use mathlib.Core.Path.{◌≡◌, refl, sym, ap, subst, ◌∙◌}
 use mathlib.Core.List.{List, [], ◌∷◌}
-use mathlib.Core.Option.{some, none}
 use Prim.Native.Nat.{ℕ, zero, suc, ◌+◌, ◌≤◌, ◌<◌}
 use native.Mathlib.Omega.{arith}
 use lib.ListN.{length, drop, length-drop}
@@ -29,7 +28,7 @@ module _ (last : ℕ) where
   same_rest f g at u same (Ok None) e = refl
   same_rest f g at u same (Err r) e = refl
 
-  read_nothing : (n at : ℕ) (u : List ℕ) → length u ≤ 0 → read_up_to last n at u ≡ stops_at at none
+  read_nothing : (n at : ℕ) (u : List ℕ) → length u ≤ 0 → read_up_to last n at u ≡ stops_at at None
   unfolding read_up_to decode
   read_nothing zero at u h = refl
   read_nothing (suc n) at [] h = refl
@@ -67,18 +66,18 @@ module _ (last : ℕ) (s : List ℕ) where
       instructions_step last at u ∙ ap (read_by last (instructions_from last) at u) e
       ∙ ap (λ (v : List ℕ). before (spot_at last at u k o z) (instructions_from last (at + z) v)) (drop-drop z at s)
 
-  pub reads_end : (at : ℕ) → decode last at (drop at s) ≡ (Ok None) → read_from at ≡ stops_at at none
+  pub reads_end : (at : ℕ) → decode last at (drop at s) ≡ (Ok None) → read_from at ≡ stops_at at None
   reads_end at e = instructions_step last at (drop at s) ∙ ap (read_by last (instructions_from last) at (drop at s)) e
 
-  pub reads_fault : (at : ℕ) (r : Refusal) → decode last at (drop at s) ≡ Err r → read_from at ≡ stops_at at (some r)
+  pub reads_fault : (at : ℕ) (r : Refusal) → decode last at (drop at s) ≡ Err r → read_from at ≡ stops_at at (Some r)
   reads_fault at r e = instructions_step last at (drop at s) ∙ ap (read_by last (instructions_from last) at (drop at s)) e
 
   -- what holds where reading stops, and in front of an instruction if behind it, holds of what is read
   module _ (M : ℕ → Read → Type 0)
       (on : (at k : ℕ) (o : Operand) (z : ℕ) → decode last at (drop at s) ≡ Ok (Some (instr k o z)) → M (at + z) (read_from (at + z))
       → M at (before (spot_at last at (drop at s) k o z) (read_from (at + z))))
-      (over : (at : ℕ) → decode last at (drop at s) ≡ (Ok None) → M at (stops_at at none))
-      (fault : (at : ℕ) (r : Refusal) → decode last at (drop at s) ≡ Err r → M at (stops_at at (some r))) where
+      (over : (at : ℕ) → decode last at (drop at s) ≡ (Ok None) → M at (stops_at at None))
+      (fault : (at : ℕ) (r : Refusal) → decode last at (drop at s) ≡ Err r → M at (stops_at at (Some r))) where
     by_step : (at : ℕ) → ((z : ℕ) → 0 < z → M (at + z) (read_from (at + z))) → (t : Step)
         → decode last at (drop at s) ≡ t
         → M at (read_from at)

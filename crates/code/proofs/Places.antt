@@ -11,7 +11,6 @@ use mathlib.Core.List.Memᴰ.{head as mhead}
 use mathlib.Core.List.Memᴰ.{tail as mtail}
 use mathlib.Core.List.{List, Memᴰ as Mem}
 use mathlib.Core.Logic.{◌⊎◌, ⊎_elim, inl, inr}
-use mathlib.Core.Option.{none}
 use Prim.Native.Nat.{ℕ, ◌+◌, ◌≤◌, ◌<◌}
 use native.Mathlib.Omega.{arith}
 use native.Mathlib.Decide.{dec_lt}
@@ -166,7 +165,7 @@ module _ {last : ℕ} {s : List ℕ} where
       record { is = subst (λ (x : ℕ). Comes x (read_from last s 0)) e (come_next last s 0 o f p.is h) }
 
   -- what holds at 0, and behind each instruction if at it, holds at all places
-  module _ (P : ℕ → Type 0) (none : P 0)
+  module _ (P : ℕ → Type 0) (None : P 0)
       (on : (o q : ℕ) (f : Flow) → Place last s o → P o → Stands last s o f → o + f.size ≡ q → P q) where
     along : (at : ℕ) → Place last s at → P at → (o : ℕ) → Comes o (read_from last s at) → P o
     along = read_ind last s (λ at read. Place last s at → P at → (o : ℕ) → Comes o read → P o)
@@ -177,7 +176,7 @@ module _ {last : ℕ} {s : List ℕ} where
         (λ at r e p here q m. subst P (sym (Memᴰ.eq_of_singleton m)) here)
 
     pub place_ind : (o : ℕ) → Place last s o → P o
-    place_ind o p = along 0 place_first none o p.is
+    place_ind o p = along 0 place_first None o p.is
 
   pub place_le : {o : ℕ} → Place last s o → o ≤ length s
   place_le {o} p = place_ind (λ (x : ℕ). x ≤ length s) (omega arith) (λ a q f p l h e. omega (arith, (stands_size h).1, e)) o p
@@ -207,7 +206,7 @@ module _ {last : ℕ} {s : List ℕ} where
   pub whole_at : {o : ℕ} → Place last s o → flow_of last o (drop o s) ≡ (Ok None) → (q : Refusal) → Faulty last s q → ⊥
   whole_at {o} p e q A =
       let d = decode_past last o s (ends_over last s o e) in
-      let n : (read_from last s 0).fault ≡ none =
+      let n : (read_from last s 0).fault ≡ None =
       come_fault last s 0 o p.is ∙ ap (λ (r : Read). r.fault) (reads_end last s o d) in
       let f = A.is in
       clash cc

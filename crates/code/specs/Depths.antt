@@ -4,9 +4,8 @@
 -- Assumes nothing.
 use Rattle.op.specs.Effects.{by}
 use Rattle.op.specs.declared.Effect.{Effect}
-use Rattle.std.specs.Prelude.{◌≡◌, true, ℕ, suc, ◌+◌, ◌*◌, ◌≤◌, ◌<◌, length, drop, get_or, Ok, Some}
+use Rattle.std.specs.Prelude.{◌≡◌, true, ℕ, suc, ◌+◌, ◌*◌, ◌≤◌, ◌<◌, length, drop, get_or, Ok, Some, Option}
 use mathlib.Core.List.{List, [], ◌∷◌, Memᴰ}
-use Rattle.std.proofs.Math.Option.{Option, some}
 use Rattle.op.specs.Depths.{deepest, landing, low_falling}
 use Rattle.op.specs.declared.Refusal.{Refusal}
 use Rattle.code.specs.declared.Flow.{Flow}
@@ -24,7 +23,7 @@ pub record Place (last : ℕ) (s : List ℕ) (o : ℕ) : Type 0 where
 
 -- "1 or 22 at the lowest offset": reading stops at a fault
 pub record Faulty (last : ℕ) (s : List ℕ) (q : Refusal) : Type 0 where
-  pub is : (instructions_in last s).fault ≡ some q
+  pub is : (instructions_in last s).fault ≡ Some q
 
 -- the pair o, d is a start
 pub record Begins (st : List ℕ) (o d : ℕ) : Type 0 where
@@ -42,7 +41,7 @@ Leads d c e = landing low_falling d (Ok (by c.up c.down)) ≡ Ok e
 pub record Falls (a : ℕ → Option ℕ) (f : Flow) (o d : ℕ) : Type 0 where
   pub depth : ℕ
   pub leads : Leads d f.net depth
-  pub has : f.falls ≡ true → a (o + f.size) ≡ some depth
+  pub has : f.falls ≡ true → a (o + f.size) ≡ Some depth
 
 -- the taken depth: in range, and the place that the jump goes to has it
 pub record Jumps (a : ℕ → Option ℕ) (f : Flow) (d : ℕ) : Type 0 where
@@ -50,7 +49,7 @@ pub record Jumps (a : ℕ → Option ℕ) (f : Flow) (d : ℕ) : Type 0 where
   pub depth : ℕ
   pub goes : f.goal ≡ To target
   pub leads : Leads d f.taken depth
-  pub has : a target ≡ some depth
+  pub has : a target ≡ Some depth
 
 -- an instruction given the depth d
 pub record Kept (a : ℕ → Option ℕ) (f : Flow) (o d : ℕ) : Type 0 where
@@ -60,14 +59,14 @@ pub record Kept (a : ℕ → Option ℕ) (f : Flow) (o d : ℕ) : Type 0 where
 -- "An assignment gives places at most one depth each, 0 to 65,535. Each start has its depth. For every instruction
 -- with a depth, .." (R49)
 pub record Assigns (last : ℕ) (s st : List ℕ) (a : ℕ → Option ℕ) : Type 0 where
-  pub places : (o d : ℕ) → a o ≡ some d → Place last s o × (d ≤ deepest)
-  pub starts : (o d : ℕ) → Begins st o d → a o ≡ some d
-  pub kept : (o d : ℕ) (f : Flow) → a o ≡ some d → Stands last s o f → Kept a f o d
+  pub places : (o d : ℕ) → a o ≡ Some d → Place last s o × (d ≤ deepest)
+  pub starts : (o d : ℕ) → Begins st o d → a o ≡ Some d
+  pub kept : (o d : ℕ) (f : Flow) → a o ≡ Some d → Stands last s o f → Kept a f o d
 
 -- "the smallest one, which is part of every other" (R50)
 pub record Smallest (last : ℕ) (s st : List ℕ) (a : ℕ → Option ℕ) : Type 0 where
   pub assigns : Assigns last s st a
-  pub least : (b : ℕ → Option ℕ) → Assigns last s st b → (o d : ℕ) → a o ≡ some d → b o ≡ some d
+  pub least : (b : ℕ → Option ℕ) → Assigns last s st b → (o d : ℕ) → a o ≡ Some d → b o ≡ Some d
 
 -- no assignment exists
 abbrev pub Impossible : ℕ → List ℕ → List ℕ → Type 0
@@ -90,6 +89,6 @@ Rising n (x ∷ xs) = (n ≤ x) × Rising (suc x) xs
 pub record Counts (last : ℕ) (s : List ℕ) (a : ℕ → Option ℕ) (k : ℕ) : Type 0 where
   pub starts : List ℕ
   pub rising : Rising 0 starts
-  pub each : (o : ℕ) → Memᴰ o starts → (f : Flow) × (d : ℕ) × Place last s o × Stands last s o f × (a o ≡ some d)
-  pub all : (o d : ℕ) (f : Flow) → Place last s o → Stands last s o f → a o ≡ some d → Memᴰ o starts
+  pub each : (o : ℕ) → Memᴰ o starts → (f : Flow) × (d : ℕ) × Place last s o × Stands last s o f × (a o ≡ Some d)
+  pub all : (o d : ℕ) (f : Flow) → Place last s o → Stands last s o f → a o ≡ Some d → Memᴰ o starts
   pub count : k ≡ length starts

@@ -4,8 +4,7 @@
 -- Assumes nothing.
 use Rattle.code.specs.declared.Stopped.{Stopped}
 use Rattle.code.specs.Decode.{Step}
-use Rattle.std.specs.Prelude.{List, [], ◌∷◌, ◌++◌, map, ℕ, zero, suc, ◌+◌, length, drop, Ok, Err, Some, None, Result}
-use Rattle.std.proofs.Math.Option.{Option, some, none}
+use Rattle.std.specs.Prelude.{List, [], ◌∷◌, ◌++◌, map, ℕ, zero, suc, ◌+◌, length, drop, Ok, Err, Some, None, Result, Option}
 use Rattle.op.specs.declared.Operand.{Operand}
 use Rattle.op.specs.declared.Refusal.{Refusal}
 use Rattle.code.specs.Bytes.{words_in}
@@ -48,12 +47,12 @@ spot_at last at u opcode operand size =
 -- what a step adds to what is read behind it; `rest` reads from an offset on
 abbrev pub read_by : (last : ℕ) (rest : ℕ → List ℕ → Read) (at : ℕ) (u : List ℕ) (step : Step) → Read
 read_by last rest at u (Ok (Some i)) = before (spot_at last at u i.opcode i.operand i.size) (rest (at + i.size) (drop i.size u))
-read_by last rest at u (Ok None) = stops_at at none
-read_by last rest at u (Err r) = stops_at at (some r)
+read_by last rest at u (Ok None) = stops_at at None
+read_by last rest at u (Err r) = stops_at at (Some r)
 
 -- u, the code from an offset on, of which no more than so many instructions are read
 unfoldable pub read_up_to : (last most at : ℕ) (u : List ℕ) → Read
-read_up_to last zero at u = stops_at at none
+read_up_to last zero at u = stops_at at None
 read_up_to last (suc most) at u = let rest = read_up_to last most in read_by last rest at u (decode last at u)
 
 -- the instructions of u, the code from an offset on; each has a byte at least, so that is all of them
@@ -70,8 +69,8 @@ places_in r = map (λ (spot : Spot). spot.offset) r.spots ++ (r.stop ∷ [])
 
 -- so many instructions, to the end or to a fault
 abbrev pub count_by : (n : ℕ) (fault : Option Refusal) → Result ℕ Stopped
-count_by n none = Ok n
-count_by n (some r) = Err (record { count = n; refusal = r })
+count_by n None = Ok n
+count_by n (Some r) = Err (record { count = n; refusal = r })
 
 -- the instructions of a code, counted (R18)
 unfoldable pub count_of : (last : ℕ) (code : List ℕ) → Result ℕ Stopped

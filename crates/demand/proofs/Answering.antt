@@ -1,11 +1,10 @@
 -- What a check of the bytes and the starts answers and leaves.
 -- Assumes nothing.
-use Rattle.std.specs.Prelude.{Ok, Result}
+use Rattle.std.specs.Prelude.{Ok, Result, None, Option, Some}
 use mathlib.Core.Path.{◌≡◌, refl, ap, ◌∙◌}
 use mathlib.Core.Bool.{true}
 use mathlib.Core.Logic.{◌↔◌}
 use mathlib.Core.List.{List, Memᴰ as Mem}
-use mathlib.Core.Option.{Option, some, none}
 use Prim.Native.Nat.{ℕ, suc, ◌*◌, ◌/◌, ◌≤◌, ◌<◌}
 use native.Mathlib.Decide.{dec_le}
 use native.Mathlib.Omega.{arith}
@@ -40,8 +39,8 @@ abbrev assigning : ℕ → ℕ → Assignment
 assigning k g = record { count = k; greatest = g }
 
 cell_of_lem : (c : List ℕ) (o : ℕ) (x : Option ℕ) → depth_in c o ≡ x → cell c o ≤ 65536 → cell c o ≡ cell_of x
-cell_of_lem c o (some d) e l = (in_depth c o d e).0
-cell_of_lem c o none e l = elim (dec_le (cell c o) 65535) [
+cell_of_lem c o (Some d) e l = (in_depth c o d e).0
+cell_of_lem c o None e l = elim (dec_le (cell c o) 65535) [
   | yes h ↦ (let q = depth_in_lem c o (cell c o) refl h in clash cc)
   | no h ↦ omega arith
 ]
@@ -73,7 +72,7 @@ module _ (b : Book isa) (g : Good isa laws b)
       pub smallest_at : Smallest last_opcode s st (λ o. depth_at isa b.rows n b.cur o)
       smallest_at = rw (es, et, en) (least b g closed)
 
-      pub derived_at : (o d : ℕ) → (depth_at isa b.rows n b.cur o ≡ some d) ↔ Derived last_opcode s st o d
+      pub derived_at : (o d : ℕ) → (depth_at isa b.rows n b.cur o ≡ Some d) ↔ Derived last_opcode s st o d
       derived_at o d = rw (es, et, en) (derives b g closed o d)
 
       pub checked_at : b.len ≤ code_limit → (d d' w w' : List ℕ) (r : Result Assignment Refusal) → n < length d → n < length w

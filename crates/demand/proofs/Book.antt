@@ -1,11 +1,10 @@
 -- The builder without its bytes: rows of what was accepted while live, how they grow and are patched, and the
 -- invariant of that.
 -- Assumes nothing.
-use Rattle.std.specs.Prelude.{Some, None}
+use Rattle.std.specs.Prelude.{Some, None, Option}
 use mathlib.Core.Path.{◌≡◌}
 use mathlib.Core.Bool.{Bool, true, false}
 use mathlib.Core.List.{List, [], ◌∷◌, ◌++◌, map, Memᴰ as Mem}
-use mathlib.Core.Option.{Option, some, none}
 use Prim.Native.Nat.{ℕ, ◌+◌, ◌≤◌}
 use lib.ListN.{set, get_elem?}
 use Rattle.builder.specs.Marks.{near}
@@ -34,8 +33,8 @@ module _ (I : Isa) where
   -- the depth behind an instruction
   abbrev pub after : Bool → Option ℕ → Option ℕ
   after true e = None
-  after false none = None
-  after false (some d) = Some d
+  after false None = None
+  after false (Some d) = Some d
 
   -- more rows, starts and marks behind the others
   abbrev pub grown : Book I → List (Row I) → List (ℕ × ℕ) → List Mark → ℕ → Option ℕ → Book I
@@ -77,19 +76,19 @@ pub data Dep (I : Isa) (b : Book I) (o d : ℕ) : Type 0 where
 pub data Der (I : Isa) (b : Book I) : ℕ → ℕ → Type 0 where
   begin : {o d : ℕ} → Mem (o, d) b.starts → Der I b o d
   fall : {o d : ℕ} (r : Row I) → Mem r b.rows → Der I b r.offset r.depth → stops I r.what ≡ false
-      → net I r.what r.depth ≡ some d → r.offset + size I r.what ≡ o → Der I b o d
+      → net I r.what r.depth ≡ Some d → r.offset + size I r.what ≡ o → Der I b o d
   hop : {o d : ℕ} (r : Row I) (j : I.Jump) → Mem r b.rows → Der I b r.offset r.depth → r.what ≡ leap j (to o)
-      → I.taken j r.depth ≡ some d → Der I b o d
+      → I.taken j r.depth ≡ Some d → Der I b o d
 
 pub record RowOK (I : Isa) (L : Laws I) (b : Book I) (r : Row I) : Type 0 where
   pub fine : WValid I L r.offset r.what
   pub small : r.depth ≤ 65535
   pub came : Der I b r.offset r.depth
-  pub nets : (e : ℕ) × (net I r.what r.depth ≡ some e)
-  pub falls : (e : ℕ) → stops I r.what ≡ false → net I r.what r.depth ≡ some e
+  pub nets : (e : ℕ) × (net I r.what r.depth ≡ Some e)
+  pub falls : (e : ℕ) → stops I r.what ≡ false → net I r.what r.depth ≡ Some e
       → Dep I b (r.offset + size I r.what) e
-  pub leaps : (j : I.Jump) (g : Aim) → r.what ≡ leap j g → (e : ℕ) × (I.taken j r.depth ≡ some e)
-  pub lands : (j : I.Jump) (t e : ℕ) → r.what ≡ leap j (to t) → I.taken j r.depth ≡ some e → Dep I b t e
+  pub leaps : (j : I.Jump) (g : Aim) → r.what ≡ leap j g → (e : ℕ) × (I.taken j r.depth ≡ Some e)
+  pub lands : (j : I.Jump) (t e : ℕ) → r.what ≡ leap j (to t) → I.taken j r.depth ≡ Some e → Dep I b t e
 
 pub record Good (I : Isa) (L : Laws I) (b : Book I) : Type 0 where
   pub chain : Chain I 0 b.rows b.len
@@ -97,10 +96,10 @@ pub record Good (I : Isa) (L : Laws I) (b : Book I) : Type 0 where
   pub tips : (d : ℕ) → b.cur ≡ Some d → Der I b b.len d × (d ≤ 65535)
   pub begins : (o d : ℕ) → Mem (o, d) b.starts → Dep I b o d
   pub opens : (r : Row I) (j : I.Jump) (k : ℕ) → Mem r b.rows → r.what ≡ leap j (waits k)
-      → (d : ℕ) × (get_elem? b.marks k ≡ some (Open r.offset d)) × (I.taken j r.depth ≡ some d)
-  pub labels : (k o d : ℕ) → get_elem? b.marks k ≡ some (Open o d)
+      → (d : ℕ) × (get_elem? b.marks k ≡ Some (Open r.offset d)) × (I.taken j r.depth ≡ Some d)
+  pub labels : (k o d : ℕ) → get_elem? b.marks k ≡ Some (Open o d)
       → (r : Row I) × (j : I.Jump) × Mem r b.rows × (r.what ≡ leap j (waits k)) × (r.offset ≡ o)
-  pub spots : (k o d : ℕ) → get_elem? b.marks k ≡ some (Target o d) → Dep I b o d
+  pub spots : (k o d : ℕ) → get_elem? b.marks k ≡ Some (Target o d) → Dep I b o d
 
 -- what every event keeps: rows stay where they are with their edges, starts stay, depths stay
 pub record Moves (I : Isa) (b c : Book I) : Type 0 where

@@ -8,7 +8,6 @@ use mathlib.Core.List.Memᴰ.{head as mhead}
 use mathlib.Core.List.{List, [], ◌∷◌, ◌++◌, map, append_assoc, Memᴰ as Mem}
 use mathlib.Core.List.Memᴰ
 use mathlib.Core.List.Memᴰ.{tail as mtail}
-use mathlib.Core.Option.{some, none}
 use Prim.Native.Nat.{ℕ, ◌+◌, ◌-◌, ◌/◌, ◌%◌, ◌≤◌, ◌<◌}
 use native.Mathlib.Omega.{arith}
 use lib.Dec.{eqb}
@@ -69,32 +68,32 @@ module _ (I : Isa) (L : Laws I) where
   chain_in o n (x ∷ rs) r h (mtail m) = omega (arith, chain_in (o + size I x.what) n rs r h.1 m, size_some x.what)
 
   -- the depth at an offset is what the rows and the end say, and all that they say
-  pub depth_sound : (rs : List (Row I)) (n : ℕ) (c : Option ℕ) (o d : ℕ) → depth_at I rs n c o ≡ some d
+  pub depth_sound : (rs : List (Row I)) (n : ℕ) (c : Option ℕ) (o d : ℕ) → depth_at I rs n c o ≡ Some d
       → ((r : Row I) × Mem r rs × (r.offset ≡ o) × (r.depth ≡ d)) ⊎ ((n ≡ o) × (c ≡ Some d))
   depth_sound [] n c o d h = go (eqb n o) refl c h
     where
-      go : (x : Bool) → eqb n o ≡ x → (c : Option ℕ) → cond x (at_end c) none ≡ some d
+      go : (x : Bool) → eqb n o ≡ x → (c : Option ℕ) → cond x (at_end c) None ≡ Some d
           → ((r : Row I) × Mem r [] × (r.offset ≡ o) × (r.depth ≡ d)) ⊎ ((n ≡ o) × (c ≡ Some d))
       go false e c h = clash cc
       go true e None h = clash cc
       go true e (Some x) h = inr (eqb-true n o e, cc)
   depth_sound (x ∷ rs) n c o d h =
-      go (eqb x.offset o) refl h (λ (k : depth_at I rs n c o ≡ some d). depth_sound rs n c o d k)
+      go (eqb x.offset o) refl h (λ (k : depth_at I rs n c o ≡ Some d). depth_sound rs n c o d k)
     where
       up : ((r : Row I) × Mem r rs × (r.offset ≡ o) × (r.depth ≡ d)) ⊎ ((n ≡ o) × (c ≡ Some d))
           → ((r : Row I) × Mem r (x ∷ rs) × (r.offset ≡ o) × (r.depth ≡ d)) ⊎ ((n ≡ o) × (c ≡ Some d))
       up (inl t) = inl (t.0, mtail t.1, t.2, t.3)
       up (inr t) = inr t
 
-      go : (y : Bool) → eqb x.offset o ≡ y → cond y (some x.depth) (depth_at I rs n c o) ≡ some d
-          → (depth_at I rs n c o ≡ some d → ((r : Row I) × Mem r rs × (r.offset ≡ o) × (r.depth ≡ d)) ⊎
+      go : (y : Bool) → eqb x.offset o ≡ y → cond y (Some x.depth) (depth_at I rs n c o) ≡ Some d
+          → (depth_at I rs n c o ≡ Some d → ((r : Row I) × Mem r rs × (r.offset ≡ o) × (r.depth ≡ d)) ⊎
           ((n ≡ o) × (c ≡ Some d)))
           → ((r : Row I) × Mem r (x ∷ rs) × (r.offset ≡ o) × (r.depth ≡ d)) ⊎ ((n ≡ o) × (c ≡ Some d))
       go true e h k = inl (x, mhead refl, eqb-true x.offset o e, cc)
       go false e h k = up (k h)
 
   pub depth_row : (s : ℕ) (rs : List (Row I)) (n : ℕ) (c : Option ℕ) (r : Row I) → Chain I s rs n → Mem r rs
-      → depth_at I rs n c r.offset ≡ some r.depth
+      → depth_at I rs n c r.offset ≡ Some r.depth
   depth_row s [] n c r h m = elim m [ ]
   depth_row s (x ∷ rs) n c r h (mhead e) = rw (e, eq-eqb x.offset x.offset refl)
   depth_row s (x ∷ rs) n c r h (mtail m) =
@@ -104,7 +103,7 @@ module _ (I : Isa) (L : Laws I) where
       let h0 = h.0 in
       rw (ne_eqb x.offset r.offset (λ e. omega arith)) (depth_row (s + size I x.what) rs n c r h.1 m)
 
-  pub depth_tip : (s : ℕ) (rs : List (Row I)) (n : ℕ) (d : ℕ) → Chain I s rs n → depth_at I rs n (Some d) n ≡ some d
+  pub depth_tip : (s : ℕ) (rs : List (Row I)) (n : ℕ) (d : ℕ) → Chain I s rs n → depth_at I rs n (Some d) n ≡ Some d
   depth_tip s [] n d h = rw (eq-eqb n n refl)
   depth_tip s (x ∷ rs) n d h =
       let q = chain_in s n (x ∷ rs) x h (mhead refl) in
@@ -164,10 +163,10 @@ module _ (I : Isa) (L : Laws I) (k t : ℕ) where
         let f = st r j (mhead refl) w in
         let h0 = h.0 in
         let z : x ≡ 0 = omega arith in
-        let none : map (resolve I k t) rs ≡ rs = resolve_none rs (λ q i m v.
+        let None : map (resolve I k t) rs ≡ rs = resolve_none rs (λ q i m v.
         let c = chain_in I L (s + size I r.what) n rs q h.1 m in let c0 = c.0 in
         let y = st q i (mtail m) v in omega (arith, size_some I L r.what)) in
-        rw (z, none, w, eq-eqb k k refl, f)
+        rw (z, None, w, eq-eqb k k refl, f)
 
     tail_aimed : (s n : ℕ) (r : Row I) (rs : List (Row I)) (x : ℕ) → Chain I s (r ∷ rs) n → Sits (r ∷ rs) → s + x ≡ o
         → (q : Row I) (j : I.Jump) → Mem q rs → q.what ≡ leap j (waits k)

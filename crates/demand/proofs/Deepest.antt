@@ -1,13 +1,12 @@
 -- The greatest depth that rows and their end show is that of their depths.
 -- Assumes nothing.
-use Rattle.std.specs.Prelude.{Some, None}
+use Rattle.std.specs.Prelude.{Some, None, Option}
 use mathlib.Core.Path.{◌≡◌, refl, ap, ◌∙◌}
 use mathlib.Core.Bool.{Bool, true, false, cond}
 use mathlib.Core.Logic.{◌⊎◌, ⊎_elim, inl, inr}
 use mathlib.Core.List.Memᴰ.{head as mhead}
 use mathlib.Core.List.Memᴰ.{tail as mtail}
 use mathlib.Core.List.{List, [], ◌∷◌, Memᴰ as Mem}
-use mathlib.Core.Option.{Option, some, none}
 use Prim.Native.Nat.{ℕ, ◌≤◌, max}
 use native.Mathlib.Decide.{dec_le}
 use native.Mathlib.Omega.{arith}
@@ -49,10 +48,10 @@ shown (x ∷ rs) here = elim (dec_le (deepest_seen rs here) x.depth) [
       (⊎_elim (λ e. inr (inl e)) (λ t. absurd (omega (arith, t.2)))) (shown rs here)))
 ]
 
-nowhere : (n o : ℕ) → depth_at isa [] n None o ≡ none
+nowhere : (n o : ℕ) → depth_at isa [] n None o ≡ None
 nowhere n o = go (eqb n o)
   where
-    go : (b : Bool) → cond {A = Option ℕ} b none none ≡ none
+    go : (b : Bool) → cond {A = Option ℕ} b None None ≡ None
     go true = refl
     go false = refl
 
@@ -63,11 +62,11 @@ greatest_seen rs n here chain = record {
       (λ t. (let h = row_under rs here t.0 t.1 in omega (arith, t.3)))
       (λ t. rw t.1 (end_under rs d)) (depth_sound isa laws rs n here o d e);
   assigned = ⊎_elim
-      (λ t. inl (t.0.offset, depth_row isa laws 0 rs n here t.0 chain t.1 ∙ ap some t.2))
+      (λ t. inl (t.0.offset, depth_row isa laws 0 rs n here t.0 chain t.1 ∙ ap Some t.2))
       (⊎_elim
       (λ e. inl (n, tip (deepest_seen rs here) e))
       (λ t. inr (t.2, rw (t.0, t.1) (nowhere n)))) (shown rs here);
 }
   where
-    tip : (g : ℕ) → here ≡ Some g → depth_at isa rs n here n ≡ some g
+    tip : (g : ℕ) → here ≡ Some g → depth_at isa rs n here n ≡ Some g
     tip g e = rw e (depth_tip isa laws 0 rs n g chain)

@@ -1,12 +1,11 @@
 -- Each single call keeps the invariant.
 -- Assumes nothing.
-use Rattle.std.specs.Prelude.{Some, None}
+use Rattle.std.specs.Prelude.{Some, None, Option}
 use mathlib.Core.Path.{◌≡◌, refl, sym, ap}
 use mathlib.Core.Bool.{Bool, true, false}
 use mathlib.Core.List.Memᴰ.{head as mhead}
 use mathlib.Core.List.{List, [], ◌∷◌, ◌++◌, Memᴰ as Mem}
 use mathlib.Core.List.Memᴰ
-use mathlib.Core.Option.{Option, some, none}
 use Prim.Native.Nat.{ℕ, zero, suc, ◌+◌, ◌≤◌}
 use native.Mathlib.Omega.{arith}
 use lib.ListN.{length, get_elem?}
@@ -21,27 +20,27 @@ use Rattle.base.proofs.Lists.{nth_seam}
 use Rattle.demand.proofs.Book.{Book, net, stops, after, grown, push, WValid, Dep, row, tip, Der, begin, fall, RowOK, Good, Moves, der_moves}
 use Rattle.demand.proofs.Grow.{grow, moves_grown}
 
-pub after_live : (I : Isa) (s : Bool) (e : Option ℕ) (d : ℕ) → after I s e ≡ Some d → (s ≡ false) × (e ≡ some d)
+pub after_live : (I : Isa) (s : Bool) (e : Option ℕ) (d : ℕ) → after I s e ≡ Some d → (s ≡ false) × (e ≡ Some d)
 after_live I true e d h = clash cc
-after_live I false none d h = clash cc
-after_live I false (some e) d h = (refl, cc)
+after_live I false None d h = clash cc
+after_live I false (Some e) d h = (refl, cc)
 
-pub net_small : (I : Isa) (L : Laws I) (w : What I) (d e : ℕ) → net I w d ≡ some e → e ≤ 65535
+pub net_small : (I : Isa) (L : Laws I) (w : What I) (d e : ℕ) → net I w d ≡ Some e → e ≤ 65535
 net_small I L (one p) d e h = L.net_small p d e h
 net_small I L (leap j g) d e h = L.jnet_small j d e h
 
 -- no mark, or the one of an open label
 abbrev pub Marked : (I : Isa) → Book I → ℕ → What I → List Mark → Type 0
 Marked I b d w ms = ((j : I.Jump) (k : ℕ) → w ≡ leap j (waits k)
-    → (t : ℕ) × (get_elem? (b.marks ++ ms) k ≡ some (Open b.len t)) × (I.taken j d ≡ some t))
-    × ((i o t : ℕ) → get_elem? ms i ≡ some (Open o t)
+    → (t : ℕ) × (get_elem? (b.marks ++ ms) k ≡ Some (Open b.len t)) × (I.taken j d ≡ Some t))
+    × ((i o t : ℕ) → get_elem? ms i ≡ Some (Open o t)
     → (j : I.Jump) × (w ≡ leap j (waits (length b.marks + i))) × (b.len ≡ o))
-    × ((i o t : ℕ) → get_elem? ms i ≡ some (Target o t) → ⊥)
+    × ((i o t : ℕ) → get_elem? ms i ≡ Some (Target o t) → ⊥)
 
 module _ (I : Isa) (L : Laws I) (b : Book I) (g : Good I L b) (d : ℕ) (l : b.cur ≡ Some d) where
-  pub push_good : (w : What I) (ms : List Mark) → WValid I L b.len w → (e : ℕ) → net I w d ≡ some e
-      → ((j : I.Jump) (u : Aim) → w ≡ leap j u → (t : ℕ) × (I.taken j d ≡ some t))
-      → ((j : I.Jump) (o t : ℕ) → w ≡ leap j (to o) → I.taken j d ≡ some t → Dep I b o t)
+  pub push_good : (w : What I) (ms : List Mark) → WValid I L b.len w → (e : ℕ) → net I w d ≡ Some e
+      → ((j : I.Jump) (u : Aim) → w ≡ leap j u → (t : ℕ) × (I.taken j d ≡ Some t))
+      → ((j : I.Jump) (o t : ℕ) → w ≡ leap j (to o) → I.taken j d ≡ Some t → Dep I b o t)
       → Marked I b d w ms → Good I L (push I b d w ms)
   push_good w ms v e n lp ld mk =
       grow I L b (r ∷ []) [] ms (b.len + size I w) (after I (stops I w) (net I w d)) g (record {
@@ -91,7 +90,7 @@ module _ (I : Isa) (L : Laws I) (b : Book I) (g : Good I L b) (d : ℕ) (l : b.c
 
   -- the single calls
 
-  pub append_good : (p : I.Plain) → L.valid p → (e : ℕ) → I.net p d ≡ some e → Good I L (push I b d (one p) [])
+  pub append_good : (p : I.Plain) → L.valid p → (e : ℕ) → I.net p d ≡ Some e → Good I L (push I b d (one p) [])
   append_good p v e n = push_good (one p) [] v e n
       (λ j u h. clash cc)
       (λ j o t h k. clash cc) (
@@ -100,12 +99,12 @@ module _ (I : Isa) (L : Laws I) (b : Book I) (g : Good I L b) (d : ℕ) (l : b.c
         (λ i o t h. clash cc),
       )
 
-  pub jump_good : (j : I.Jump) (o t : ℕ) → near b.len o ≡ true → (e : ℕ) → I.jnet j d ≡ some e
-      → I.taken j d ≡ some t
+  pub jump_good : (j : I.Jump) (o t : ℕ) → near b.len o ≡ true → (e : ℕ) → I.jnet j d ≡ Some e
+      → I.taken j d ≡ Some t
       → Dep I b o t → Good I L (push I b d (leap j (to o)) [])
   jump_good j o t v e n k at = push_good (leap j (to o)) [] (L.jnet_jumps j d e n, v) e n
       (λ i u h. let q : i ≡ j = cc in (t, rw q k))
-      (λ i u f h q. let p : u ≡ o = cc in let p' : i ≡ j = cc in let q' : I.taken j d ≡ some f = rw p' at q in
+      (λ i u f h q. let p : u ≡ o = cc in let p' : i ≡ j = cc in let q' : I.taken j d ≡ Some f = rw p' at q in
       let r : f ≡ t = cc in rw (p, r) at') (
         (λ i u h. clash cc),
         (λ i u f h. clash cc),
@@ -115,11 +114,11 @@ module _ (I : Isa) (L : Laws I) (b : Book I) (g : Good I L b) (d : ℕ) (l : b.c
       at' : Dep I b o t
       at' = at
 
-  one_mark : (a m : Mark) (i : ℕ) → get_elem? (a ∷ []) i ≡ some m → (i ≡ 0) × (m ≡ a)
+  one_mark : (a m : Mark) (i : ℕ) → get_elem? (a ∷ []) i ≡ Some m → (i ≡ 0) × (m ≡ a)
   one_mark a m zero h = (refl, cc)
   one_mark a m (suc i) h = clash cc
 
-  pub label_good : (j : I.Jump) (t e : ℕ) → I.jnet j d ≡ some e → I.taken j d ≡ some t
+  pub label_good : (j : I.Jump) (t e : ℕ) → I.jnet j d ≡ Some e → I.taken j d ≡ Some t
       → Good I L (push I b d (leap j (waits (length b.marks))) (Open b.len t ∷ []))
   label_good j t e n k =
       push_good (leap j (waits (length b.marks))) (Open b.len t ∷ []) (L.jnet_jumps j d e n) e n

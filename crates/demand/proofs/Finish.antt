@@ -1,11 +1,10 @@
 -- Rows with the invariant, where no jump waits: their depths are the smallest assignment for their bytes and the
 -- starts.
 -- Assumes nothing.
-use Rattle.std.specs.Prelude.{Some}
+use Rattle.std.specs.Prelude.{Some, Option}
 use mathlib.Core.Path.{◌≡◌, refl, sym, subst, ◌∙◌}
 use mathlib.Core.Logic.{◌⊎◌, inl, inr}
 use mathlib.Core.List.{List, map, Memᴰ as Mem}
-use mathlib.Core.Option.{Option, some}
 use Prim.Native.Nat.{ℕ, ◌+◌, ◌≤◌}
 use native.Mathlib.Omega.{arith}
 use lib.IntN.{sub_ℕ}
@@ -48,7 +47,7 @@ module _ (b : Book isa) (g : Good isa laws b)
 
   -- the depths are those of the rows and the live end
 
-  sound : (o d : ℕ) → depths o ≡ some d → Dep isa b o d
+  sound : (o d : ℕ) → depths o ≡ Some d → Dep isa b o d
   sound o d h = go (depth_sound isa laws b.rows b.len b.cur o d h)
     where
       go : ((r : Row isa) × Mem r b.rows × (r.offset ≡ o) × (r.depth ≡ d)) ⊎ ((b.len ≡ o) × (b.cur ≡ Some d))
@@ -56,7 +55,7 @@ module _ (b : Book isa) (g : Good isa laws b)
       go (inl t) = row t.0 t.1 t.2 t.3
       go (inr t) = tip t.0 t.1
 
-  complete : (o d : ℕ) → Dep isa b o d → depths o ≡ some d
+  complete : (o d : ℕ) → Dep isa b o d → depths o ≡ Some d
   complete o d (row r m e f) = rw (← e, ← f) (depth_row isa laws 0 b.rows b.len b.cur r g.chain m)
   complete o d (tip e f) = rw (← e, f) (depth_tip isa laws 0 b.rows b.len d g.chain)
 
@@ -87,12 +86,12 @@ module _ (b : Book isa) (g : Good isa laws b)
     where
       leap_down : (p e : ℕ) (x : What isa) → Stands last_opcode code p (flow_at (length code) p x)
           → Derived last_opcode code (cells b.starts) p e → Dep isa b o d → x ≡ leap j (to o)
-          → isa.taken j e ≡ some d → Derived last_opcode code (cells b.starts) o d
+          → isa.taken j e ≡ Some d → Derived last_opcode code (cells b.starts) o d
       leap_down p e x st D at ex k =
           let st' : Stands last_opcode code p (flow_at (length code) p (leap j (to o))) = rw ex at st in
           jump D st' (goal_is p o d at) (leads_of low_taken e d (taken_of j) (depth_is (taken_depth_of e j) d k))
 
-  depths_derived : (o d : ℕ) → depths o ≡ some d → Derived last_opcode code (cells b.starts) o d
+  depths_derived : (o d : ℕ) → depths o ≡ Some d → Derived last_opcode code (cells b.starts) o d
   depths_derived o d h = down (came o d (sound o d h)).0
 
   -- a row is respected
@@ -153,8 +152,8 @@ module _ (b : Book isa) (g : Good isa laws b)
   least = smallest assigned depths_derived
 
   pub derives : (o d : ℕ)
-      → (depths o ≡ some d → Derived last_opcode code (cells b.starts) o d)
-      × (Derived last_opcode code (cells b.starts) o d → depths o ≡ some d)
+      → (depths o ≡ Some d → Derived last_opcode code (cells b.starts) o d)
+      × (Derived last_opcode code (cells b.starts) o d → depths o ≡ Some d)
   derives o d = (depths_derived o d, λ D. derived_in assigned D)
 
   -- the start list can be
@@ -178,7 +177,7 @@ module _ (b : Book isa) (g : Good isa laws b)
   }
     where
       each : (o : ℕ) → Mem o (map (λ (r : Row isa). r.offset) b.rows)
-          → (f : Flow) × (d : ℕ) × Place last_opcode code o × Stands last_opcode code o f × (depths o ≡ some d)
+          → (f : Flow) × (d : ℕ) × Place last_opcode code o × Stands last_opcode code o f × (depths o ≡ Some d)
       each o m =
           let q = mem_map_inv (λ (r : Row isa). r.offset) b.rows m in
           rw q.2 (

@@ -1,7 +1,7 @@
 -- What the theorem asks of an instruction set.
 -- Assumes nothing.
 use mathlib.Core.Path.{◌≡◌}
-use mathlib.Core.Option.{some}
+use Rattle.std.specs.Prelude.{Some}
 use Prim.Native.Nat.{ℕ, ◌≤◌, ◌<◌}
 use lib.ListN.{length}
 use Rattle.demand.specs.Isa.{Isa}
@@ -12,7 +12,7 @@ pub record Laws (I : Isa) : Type 1 where
   pub jumps : I.Jump → Type 0
   pub some_byte : (p : I.Plain) → 0 < length (I.bytes p)
   -- depths stay in range, and only a jump has the effect of one
-  pub net_small : (p : I.Plain) (d e : ℕ) → I.net p d ≡ some e → e ≤ 65535
-  pub jnet_small : (j : I.Jump) (d e : ℕ) → I.jnet j d ≡ some e → e ≤ 65535
-  pub taken_small : (j : I.Jump) (d e : ℕ) → I.taken j d ≡ some e → e ≤ 65535
-  pub jnet_jumps : (j : I.Jump) (d e : ℕ) → I.jnet j d ≡ some e → jumps j
+  pub net_small : (p : I.Plain) (d e : ℕ) → I.net p d ≡ Some e → e ≤ 65535
+  pub jnet_small : (j : I.Jump) (d e : ℕ) → I.jnet j d ≡ Some e → e ≤ 65535
+  pub taken_small : (j : I.Jump) (d e : ℕ) → I.taken j d ≡ Some e → e ≤ 65535
+  pub jnet_jumps : (j : I.Jump) (d e : ℕ) → I.jnet j d ≡ Some e → jumps j

@@ -2,11 +2,10 @@
 -- Assumes nothing.
 use Rattle.op.specs.Effects.{by}
 use Rattle.op.specs.declared.Effect.{Effect}
-use Rattle.std.specs.Prelude.{Ok, Err, Result}
+use Rattle.std.specs.Prelude.{Ok, Err, Result, Some}
 use mathlib.Core.Path.{◌≡◌, refl}
 use mathlib.Core.Bool.{Bool, true, false, cond}
 use mathlib.Core.List.{List, [], ◌∷◌, ◌++◌}
-use mathlib.Core.Option.{some}
 use Prim.Native.Nat.{ℕ, ◌+◌, ◌-◌, ◌/◌, ◌%◌, ◌≤◌, ◌<◌}
 use native.Mathlib.Omega.{arith}
 use lib.Dec.{leb}
@@ -67,11 +66,11 @@ module _ (low : Refusal) (d e : ℕ) where
   leads_of (Ok (by up down)) h = any_low (leb down (d + up)) (leb (d + up - down) deepest) (d + up - down) _ _ _ h
   leads_of (Err r) h = clash cc
 
-pub depth_is : (x : Result ℕ Refusal) (e : ℕ) → in_range x ≡ some e → x ≡ Ok e
+pub depth_is : (x : Result ℕ Refusal) (e : ℕ) → in_range x ≡ Some e → x ≡ Ok e
 depth_is (Ok d) e h = cc
 depth_is (Err r) e h = clash cc
 
-pub after_small : (d k : ℕ) (o : Operand) (e : ℕ) → in_range (after_of d k o) ≡ some e → e ≤ 65535
+pub after_small : (d k : ℕ) (o : Operand) (e : ℕ) → in_range (after_of d k o) ≡ Some e → e ≤ 65535
 after_small d k o e h = landing_small low_falling d e (effect_of k o) (depth_is (after_of d k o) e h)
 
 -- a jump's net effect is the same at every displacement

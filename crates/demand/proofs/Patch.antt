@@ -5,7 +5,6 @@ use mathlib.Core.Path.{◌≡◌, refl, sym, ◌∙◌}
 use mathlib.Core.Bool.{Bool, true, false, cond}
 use mathlib.Core.Logic.{◌≢◌}
 use mathlib.Core.List.{List, [], ◌∷◌, map, Memᴰ as Mem}
-use mathlib.Core.Option.{some}
 use Prim.Native.Nat.{ℕ, ◌+◌, ◌≤◌}
 use lib.Dec.{eqb}
 use lib.ListN.{set, get_elem?}
@@ -53,7 +52,7 @@ module _ (I : Isa) (k t : ℕ) where
       go true e q = clash cc
       go false e q = (q, λ c. eqb-false m k e (let y : l ≡ m = cc in cc))
 
-module _ (I : Isa) (L : Laws I) (b : Book I) (g : Good I L b) (k o d : ℕ) (mk : get_elem? b.marks k ≡ some (Open o d))
+module _ (I : Isa) (L : Laws I) (b : Book I) (g : Good I L b) (k o d : ℕ) (mk : get_elem? b.marks k ≡ Some (Open o d))
     (near : near o b.len ≡ true) (meets : (e : ℕ) → b.cur ≡ Some e → e ≡ d) where
   pub moves_patched : Moves I b (patched I b k o d)
   moves_patched = record {
@@ -77,7 +76,7 @@ module _ (I : Isa) (L : Laws I) (b : Book I) (g : Good I L b) (k o d : ℕ) (mk 
 
   -- the label's jump stands at o and takes the depth d
   waiting : (r : Row I) (j : I.Jump) → Mem r b.rows → r.what ≡ leap j (waits k)
-      → (r.offset ≡ o) × (I.taken j r.depth ≡ some d)
+      → (r.offset ≡ o) × (I.taken j r.depth ≡ Some d)
   waiting r j m h = let q = g.opens r j k m h in let a = q.1 in let c = q.2 in let f : q.0 ≡ d = cc in (cc, rw f at c)
 
   ok_resolve : (p e : ℕ) (w : What I) → Mem (record { offset = p; depth = e; what = w }) b.rows
@@ -100,7 +99,7 @@ module _ (I : Isa) (L : Laws I) (b : Book I) (g : Good I L b) (k o d : ℕ) (mk 
             falls = x.falls;
             leaps = λ i u q. let s : i ≡ j = cc in (d, rw s wt.1);
             lands = λ i u f q n. let s : i ≡ j = cc in let v : b.len ≡ u = cc in
-                let n' : I.taken j e ≡ some f = rw s at n in let wt1 = wt.1 in let c : Some d ≡ Some f = cc in tip v c;
+                let n' : I.taken j e ≡ Some f = rw s at n in let wt1 = wt.1 in let c : Some d ≡ Some f = cc in tip v c;
           }
 
   pub patch_good : Good I L (patched I b k o d)
@@ -118,7 +117,7 @@ module _ (I : Isa) (L : Laws I) (b : Book I) (g : Good I L b) (k o d : ℕ) (mk 
       lb : (r : Row I) × (j : I.Jump) × Mem r b.rows × (r.what ≡ leap j (waits k)) × (r.offset ≡ o)
       lb = g.labels k o d mk
 
-      wt : (lb.0.offset ≡ o) × (I.taken lb.1 lb.0.depth ≡ some d)
+      wt : (lb.0.offset ≡ o) × (I.taken lb.1 lb.0.depth ≡ Some d)
       wt = waiting lb.0 lb.1 lb.2 lb.3
 
       small : d ≤ 65535
@@ -133,8 +132,8 @@ module _ (I : Isa) (L : Laws I) (b : Book I) (g : Good I L b) (k o d : ℕ) (mk 
 
       opens : (r : Row I) (j : I.Jump) (l : ℕ) → Mem r (map (resolve I k b.len) b.rows)
           → r.what ≡ leap j (waits l)
-          → (e : ℕ) × (get_elem? (set b.marks k (Patched o d)) l ≡ some (Open r.offset e))
-          × (I.taken j r.depth ≡ some e)
+          → (e : ℕ) × (get_elem? (set b.marks k (Patched o d)) l ≡ Some (Open r.offset e))
+          × (I.taken j r.depth ≡ Some e)
       opens r j l m h =
           let q = mem_map_inv (resolve I k b.len) b.rows m in
           let h' : settled_aim I k b.len q.0.what ≡ leap j (waits l) = rw q.2 at h in
@@ -142,13 +141,13 @@ module _ (I : Isa) (L : Laws I) (b : Book I) (g : Good I L b) (k o d : ℕ) (mk 
           let c = g.opens q.0 j l q.1 a.0 in
           rw q.2 (c.0, other l a.1 ∙ c.1, c.2)
 
-      apart : (l p e : ℕ) → (m : Mark) → (m ≡ Patched o d → ⊥) → get_elem? (set b.marks k (Patched o d)) l ≡ some m
+      apart : (l p e : ℕ) → (m : Mark) → (m ≡ Patched o d → ⊥) → get_elem? (set b.marks k (Patched o d)) l ≡ Some m
           → l ≢ k
       apart l p e m ne h c =
           let s = nth_set_same b.marks k (Patched o d) mk in
-          let h' : get_elem? (set b.marks k (Patched o d)) k ≡ some m = rw c at h in ne (cc)
+          let h' : get_elem? (set b.marks k (Patched o d)) k ≡ Some m = rw c at h in ne (cc)
 
-      labels : (l p e : ℕ) → get_elem? (set b.marks k (Patched o d)) l ≡ some (Open p e)
+      labels : (l p e : ℕ) → get_elem? (set b.marks k (Patched o d)) l ≡ Some (Open p e)
           → (r : Row I) × (j : I.Jump) × Mem r (map (resolve I k b.len) b.rows) × (r.what ≡ leap j (waits l))
           × (r.offset ≡ p)
       labels l p e h =
@@ -156,7 +155,7 @@ module _ (I : Isa) (L : Laws I) (b : Book I) (g : Good I L b) (k o d : ℕ) (mk 
           let q = g.labels l p e (sym (other l n) ∙ h) in
           (resolve I k b.len q.0, q.1, mem_map (resolve I k b.len) q.2, rw (q.3, ne_eqb l k n), q.4)
 
-      spots : (l p e : ℕ) → get_elem? (set b.marks k (Patched o d)) l ≡ some (Target p e)
+      spots : (l p e : ℕ) → get_elem? (set b.marks k (Patched o d)) l ≡ Some (Target p e)
           → Dep I (patched I b k o d) p e
       spots l p e h =
           let n = apart l p e (Target p e) (λ c. clash cc) h in

@@ -2,13 +2,12 @@
 -- the end and no fault.
 -- Assumes nothing.
 use Rattle.code.specs.Decode.{instr}
-use Rattle.std.specs.Prelude.{Ok, Some}
+use Rattle.std.specs.Prelude.{Ok, Some, None}
 use mathlib.Core.Path.{◌≡◌, refl, sym, ap, ◌∙◌}
 use mathlib.Core.List.Memᴰ.{head as mhead}
 use mathlib.Core.List.{List, [], ◌∷◌, ◌++◌, map, append_assoc, Memᴰ as Mem}
 use mathlib.Core.List.Memᴰ
 use mathlib.Core.List.Memᴰ.{tail as mtail}
-use mathlib.Core.Option.{some, none}
 use Prim.Native.Nat.{ℕ, suc, ◌+◌, ◌≤◌}
 use native.Mathlib.Omega.{arith}
 use lib.IntN.{pos}
@@ -53,7 +52,7 @@ said_bytes o (one i) v = refl
 said_bytes o (leap j (waits l)) v = absurd v
 said_bytes o (leap j (to t)) v = jump_bytes o t v.1 j
 
-pub said_net : (o : ℕ) (w : What isa) (d e : ℕ) → net isa w d ≡ some e
+pub said_net : (o : ℕ) (w : What isa) (d e : ℕ) → net isa w d ≡ Some e
     → after_of d (said o w).opcode (said o w).operand ≡ Ok e
 said_net o (one i) d e h = depth_is _ e h
 said_net o (leap j (waits l)) d e h = depth_is _ e h
@@ -114,7 +113,7 @@ read_row_lem o w v rest =
     (instructions_from last_opcode (o + m) rest)) z
 
 abbrev pub read_rows : ℕ → List (Row isa) → Read
-read_rows n rows = record { spots = program rows; stop = n; fault = none }
+read_rows n rows = record { spots = program rows; stop = n; fault = None }
 
 read_rows_lem : (o n : ℕ) (rs : List (Row isa)) → Chain isa o rs n
     → ((r : Row isa) → Mem r rs → Closed isa laws r.offset r.what)
@@ -162,7 +161,7 @@ module _ (rows : List (Row isa)) (n : ℕ) (chain : Chain isa 0 rows n)
 
   pub whole : (q : Refusal) → Faulty last_opcode code q → ⊥
   whole q a =
-      let e : none ≡ some q = sym (ap (λ (read : Read). read.fault) reads_rows) ∙ a.is in
+      let e : None ≡ Some q = sym (ap (λ (read : Read). read.fault) reads_rows) ∙ a.is in
       clash cc
 
   -- the rows' offsets rise

@@ -9,7 +9,6 @@ use Rattle.std.specs.Prelude.{Ok, Err, Some, None, Option}
 use mathlib.Core.Path.{◌≡◌, refl, sym, ap, ◌∙◌}
 use mathlib.Core.Bool.{Bool, true, false}
 use mathlib.Core.List.{List, [], ◌∷◌, ◌++◌}
-use mathlib.Core.Option.{some}
 use Prim.Native.Nat.{ℕ, ◌+◌, ◌/◌, ◌≤◌}
 use native.Mathlib.Omega.{arith}
 use lib.ListN.{length, take}
@@ -142,7 +141,7 @@ module _ (b : Builder) (k : ℕ) (t : JumpTarget) (code locs marks starts : List
       )
       (jumped_at (view_of b code marks starts) k g.here g.goes.next g.row g.offset g.depth c.code w t
       g.target (length-take-le c.code code g.sound.code) g.word
-      g.live g.goes.falls g.taken (tab_nth c.marks (mark_at marks) g.row u.0 ∙ ap some u.1) g.close)
+      g.live g.goes.falls g.taken (tab_nth c.marks (mark_at marks) g.row u.0 ∙ ap Some u.1) g.close)
 
   pub to_moves : Moved (view_of b code marks starts) (emit_jump_to_call k t)
       (given (emit_jump_to_of b k t code locs marks).answer)
@@ -184,7 +183,7 @@ module _ (b : Builder) (code marks starts : List ℕ) where
         (patched_at (view_of b code marks starts) i o g.depth c.code w a
         (g.after ∙ revived_live c.depth g.depth g.meet) (length-take-le c.code code h.code)
         g.word
-        (tab_nth c.marks (mark_at marks) i u.0 ∙ ap some u.1) g.small g.meet g.close g.place)
+        (tab_nth c.marks (mark_at marks) i u.0 ∙ ap Some u.1) g.small g.meet g.close g.place)
 
     row_any : (t : Bool) → markable b.core (length code) (length marks) ≡ t → (p : PatchDecision)
         → patch_guard t Unsound (mark_plan_of (mark_in b.core.marks marks i) b.core) ≡ p

@@ -3,9 +3,8 @@
 -- each jump with its final displacement; and the depths derived from those bytes and the region starts alone are the
 -- builder's: one at each instruction and at a live end, none at a dead end."
 -- Assumes nothing.
-use Rattle.std.specs.Prelude.{◌≡◌, ◌↔◌, ℕ, ◌*◌, ◌≤◌, ◌<◌, max, length, take, Ok, Result, Some, None}
+use Rattle.std.specs.Prelude.{◌≡◌, ◌↔◌, ℕ, ◌*◌, ◌≤◌, ◌<◌, max, length, take, Ok, Result, Some, None, Option}
 use mathlib.Core.List.{List, [], ◌∷◌, Memᴰ}
-use Rattle.std.proofs.Math.Option.{Option, some, none}
 use contract.Lifetimes.{Lfts}
 use Rattle.op.specs.Opcodes.{last_opcode}
 use Rattle.op.specs.declared.Refusal.{Refusal}
@@ -59,8 +58,8 @@ depths w h o = depth_at isa h.rows (length (finished w)) w.state.core.depth o
 
 -- a depth's cell: "65,536 where there is no depth"
 abbrev pub cell_of : Option ℕ → ℕ
-cell_of none = no_depth
-cell_of (some d) = d
+cell_of None = no_depth
+cell_of (Some d) = d
 
 -- the greatest depth that a history shows: before an instruction, or at a live end; 0 where it shows none
 abbrev pub deepest_seen : List (Row isa) → Option ℕ → ℕ
@@ -84,17 +83,17 @@ pub record Demand (w w' : World) (h : History) : Type 0 where
   -- "reading the finished bytes gives exactly the instructions accepted while live, in order, each jump with its final
   -- displacement"
   pub reads : instructions_in last_opcode (finished w')
-      ≡ record { spots = program h.rows; stop = length (finished w'); fault = none }
+      ≡ record { spots = program h.rows; stop = length (finished w'); fault = None }
   -- every jump has its place: none waits for its label
   pub settled : (r : Row isa) → Memᴰ r h.rows → (k l : ℕ) → r.what ≡ leap k (waits l) → ⊥
   -- the starts are a live new builder's and the regions' opened, no others
   pub starts : region_starts w' ≡ cells h.starts
   -- "one at each instruction": the depth that the builder had before it
-  pub before : (r : Row isa) → Memᴰ r h.rows → depths w' h r.offset ≡ some r.depth
+  pub before : (r : Row isa) → Memᴰ r h.rows → depths w' h r.offset ≡ Some r.depth
   -- "the depths derived from those bytes and the region starts alone": the smallest assignment, and just what paths
   -- from the starts lead to
   pub smallest : Smallest last_opcode (finished w') (region_starts w') (depths w' h)
-  pub derived : (o d : ℕ) → (depths w' h o ≡ some d) ↔ Derived last_opcode (finished w') (region_starts w') o d
+  pub derived : (o d : ℕ) → (depths w' h o ≡ Some d) ↔ Derived last_opcode (finished w') (region_starts w') o d
   -- so `check` of those bytes and starts accepts where its two slices have room, by its contract
   pub checks : (κs : Lfts 4) (code : Holding (finished w')) (starts : Holding (region_starts w'))
       (entry exit work left : Slice) (r : Result Assignment Refusal)

@@ -1,8 +1,7 @@
 -- The history: the instructions accepted while live, each with its offset and the depth before it. It comes from the
 -- calls, their answers and the depths before them, never from bytes.
 -- Assumes nothing.
-use Rattle.std.specs.Prelude.{cond, List, [], ◌∷◌, ◌++◌, map, ℕ, ◌+◌, eqb, pos, length, Some, None}
-use Rattle.std.proofs.Math.Option.{Option, some, none}
+use Rattle.std.specs.Prelude.{cond, List, [], ◌∷◌, ◌++◌, map, ℕ, ◌+◌, eqb, pos, length, Some, None, Option}
 use Rattle.std.proofs.Math.IntN.{sub_ℕ}
 use Rattle.op.specs.declared.Operand.{Operand}
 use Rattle.op.specs.declared.Refusal.{Refusal}
@@ -32,8 +31,8 @@ pub record Row (I : Isa) : Type 0 where
 
 -- the depth at the end, where it is live
 abbrev pub at_end : Option ℕ → Option ℕ
-at_end None = none
-at_end (Some d) = some d
+at_end None = None
+at_end (Some d) = Some d
 
 module _ (I : Isa) where
   -- how many bytes it has
@@ -59,8 +58,8 @@ module _ (I : Isa) where
 
   -- the depth at an offset: an instruction's, the end's if it is live, and nowhere else one
   abbrev pub depth_at : List (Row I) → ℕ → Option ℕ → ℕ → Option ℕ
-  depth_at [] n here o = cond (eqb n o) (at_end here) none
-  depth_at (r ∷ rs) n here o = cond (eqb r.offset o) (some r.depth) (depth_at rs n here o)
+  depth_at [] n here o = cond (eqb n o) (at_end here) None
+  depth_at (r ∷ rs) n here o = cond (eqb r.offset o) (Some r.depth) (depth_at rs n here o)
 
 -- a row as it is to be read
 abbrev pub spot_of : Row isa → Spot

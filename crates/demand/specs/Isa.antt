@@ -1,7 +1,6 @@
 -- An instruction set as demand 3 sees it: instructions, their bytes, and what they do to the depth.
 -- Assumes nothing.
-use Rattle.std.specs.Prelude.{Bool, List, ℕ, ℤ}
-use Rattle.std.proofs.Math.Option.{Option}
+use Rattle.std.specs.Prelude.{Bool, List, ℕ, ℤ, Option}
 
 pub record Isa : Type 1 where
   -- instructions that don't jump, jumps without their displacement, and instructions as they are read

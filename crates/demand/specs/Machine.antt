@@ -1,8 +1,7 @@
 -- The instruction set of the rules (R1 to R19): bytes are those of `code`, shapes, effects and dead-makers those of `op`.
 -- Assumes nothing.
 use Rattle.op.specs.declared.Refusal.{Refusal}
-use Rattle.std.specs.Prelude.{[], ℕ, pos, Ok, Err, Result}
-use Rattle.std.proofs.Math.Option.{Option, some, none}
+use Rattle.std.specs.Prelude.{[], ℕ, pos, Ok, Err, Result, None, Option, Some}
 use Rattle.op.specs.Depths.{after_of, taken_depth_of}
 use Rattle.op.specs.Effects.{dead_maker}
 use Rattle.op.specs.declared.Operand.TheVariants as O
@@ -12,8 +11,8 @@ use Rattle.demand.specs.Isa.{Isa}
 
 -- the depth, where it is in range
 abbrev pub in_range : Result ℕ Refusal → Option ℕ
-in_range (Ok d) = some d
-in_range (Err r) = none
+in_range (Ok d) = Some d
+in_range (Err r) = None
 
 -- a jump's net effect is that of any displacement
 abbrev pub isa : Isa

@@ -1,11 +1,10 @@
 -- The numbers of a column, read one behind the other into cells, and columns that no shape has.
 -- Assumes nothing.
 use Rattle.readback.specs.declared.numbers.Small.TheVariants as Z
-use Rattle.std.specs.Prelude.{Some, None}
+use Rattle.std.specs.Prelude.{Some, None, Option}
 use mathlib.Core.Path.{◌≡◌, refl, sym, ap, ◌∙◌, subst}
 use mathlib.Core.Bool.{Bool, true, false, cond}
 use mathlib.Core.List.{List, [], ◌∷◌, ◌++◌, append-nil}
-use mathlib.Core.Option.{Option, none, some}
 use Prim.Native.Nat.{ℕ, ◌+◌, ◌≤◌, ◌<◌}
 use native.Mathlib.Decide.{dec_lt}
 use native.Mathlib.Numerals.{add-one}
@@ -34,18 +33,18 @@ use Rattle.readback.proofs.Sayable.{AllPlain, FirstNear, Sayable, unsaid}
 -- a column of which some part is a number that no shape has in its place, or none
 module _ (c : List ℕ) (numbers : same c dash ≡ false) where
   unread : (pre : List ℤ) (r : Option (List ℤ)) → read_all (split 44 c) ≡ before pre r
-      → ((zs : List ℤ) → r ≡ some zs → Sayable (pre ++ zs) → ⊥)
-      → (s : Shape) → and_then (read_operands c) (operand_for s) ≡ none
+      → ((zs : List ℤ) → r ≡ Some zs → Sayable (pre ++ zs) → ⊥)
+      → (s : Shape) → and_then (read_operands c) (operand_for s) ≡ None
   unfolding and_then
-  unread pre none e n s = rw (numbers, e)
-  unread pre (some zs) e n s = rw (numbers, e) (unsaid (pre ++ zs) (n zs refl) s)
+  unread pre None e n s = rw (numbers, e)
+  unread pre (Some zs) e n s = rw (numbers, e) (unsaid (pre ++ zs) (n zs refl) s)
 
 -- the first part is read as no number in its place
-both_some : (z : Option ℤ) (r : Option (List ℤ)) (zs : List ℤ) → both z r ≡ some zs
-    → (y : ℤ) × (ys : List ℤ) × (z ≡ some y) × (r ≡ some ys) × (zs ≡ y ∷ ys)
-both_some none r zs e = absurd (nothing e)
-both_some (some z) none zs e = absurd (nothing e)
-both_some (some z) (some ys) zs e = (z, ys, refl, refl, cc)
+both_some : (z : Option ℤ) (r : Option (List ℤ)) (zs : List ℤ) → both z r ≡ Some zs
+    → (y : ℤ) × (ys : List ℤ) × (z ≡ Some y) × (r ≡ Some ys) × (zs ≡ y ∷ ys)
+both_some None r zs e = absurd (nothing e)
+both_some (Some z) None zs e = absurd (nothing e)
+both_some (Some z) (Some ys) zs e = (z, ys, refl, refl, cc)
 
 plain_at_lem : (l : List ℤ) (z : ℤ) (ys : List ℤ) → AllPlain (l ++ (z ∷ ys)) → AllPlain (z ∷ [])
 plain_at_lem [] (pos n) ys p = (p.0, tt)
@@ -54,41 +53,41 @@ plain_at_lem (pos m ∷ l) z ys p = plain_at_lem l z ys p.1
 plain_at_lem (negsuc m ∷ l) z ys p = absurd p
 
 -- a number that is no `Plus` is not plain, and one that is none of the two is not near
-not_plain : (z : ℤ) → ((w : ℕ) → small_of (some z) ≡ Some (Z.Plus w) → ⊥) → AllPlain (z ∷ []) → ⊥
+not_plain : (z : ℤ) → ((w : ℕ) → small_of (Some z) ≡ Some (Z.Plus w) → ⊥) → AllPlain (z ∷ []) → ⊥
 unfolding small_of
 not_plain (pos n) h p = h n (rw (lt-ltb n 65536 p.0))
 not_plain (negsuc n) h p = p
 
-not_near : (z : ℤ) → small_of (some z) ≡ None → mag z < 65536 → ⊥
+not_near : (z : ℤ) → small_of (Some z) ≡ None → mag z < 65536 → ⊥
 unfolding small_of
 not_near (pos n) e h = let q : Some (Z.Plus n) ≡ None = rw (lt-ltb n 65536 h) at e in clash cc
 not_near (negsuc n) e h = let q : Some (Z.Minus n) ≡ None = rw (lt-ltb n 65536 h) at e in clash cc
 
-pub small_plus : (z : Option ℤ) (w : ℕ) → small_of z ≡ Some (Z.Plus w) → z ≡ some (pos w)
+pub small_plus : (z : Option ℤ) (w : ℕ) → small_of z ≡ Some (Z.Plus w) → z ≡ Some (pos w)
 unfolding small_of
-small_plus none w e = clash cc
-small_plus (some (pos n)) w e = by (ltb n 65536) e
+small_plus None w e = clash cc
+small_plus (Some (pos n)) w e = by (ltb n 65536) e
   where
-    by : (b : Bool) → cond b (Some (Z.Plus n)) None ≡ Some (Z.Plus w) → some (pos n) ≡ some (pos w)
+    by : (b : Bool) → cond b (Some (Z.Plus n)) None ≡ Some (Z.Plus w) → Some (pos n) ≡ Some (pos w)
     by true e = cc
     by false e = clash cc
-small_plus (some (negsuc n)) w e = by (ltb n 65536) e
+small_plus (Some (negsuc n)) w e = by (ltb n 65536) e
   where
-    by : (b : Bool) → cond b (Some (Z.Minus n)) None ≡ Some (Z.Plus w) → some (negsuc n) ≡ some (pos w)
+    by : (b : Bool) → cond b (Some (Z.Minus n)) None ≡ Some (Z.Plus w) → Some (negsuc n) ≡ Some (pos w)
     by true e = clash cc
     by false e = clash cc
 
-pub small_minus : (z : Option ℤ) (w : ℕ) → small_of z ≡ Some (Z.Minus w) → z ≡ some (negsuc w)
+pub small_minus : (z : Option ℤ) (w : ℕ) → small_of z ≡ Some (Z.Minus w) → z ≡ Some (negsuc w)
 unfolding small_of
-small_minus none w e = clash cc
-small_minus (some (pos n)) w e = by (ltb n 65536) e
+small_minus None w e = clash cc
+small_minus (Some (pos n)) w e = by (ltb n 65536) e
   where
-    by : (b : Bool) → cond b (Some (Z.Plus n)) None ≡ Some (Z.Minus w) → some (pos n) ≡ some (negsuc w)
+    by : (b : Bool) → cond b (Some (Z.Plus n)) None ≡ Some (Z.Minus w) → Some (pos n) ≡ Some (negsuc w)
     by true e = clash cc
     by false e = clash cc
-small_minus (some (negsuc n)) w e = by (ltb n 65536) e
+small_minus (Some (negsuc n)) w e = by (ltb n 65536) e
   where
-    by : (b : Bool) → cond b (Some (Z.Minus n)) None ≡ Some (Z.Minus w) → some (negsuc n) ≡ some (negsuc w)
+    by : (b : Bool) → cond b (Some (Z.Minus n)) None ≡ Some (Z.Minus w) → Some (negsuc n) ≡ Some (negsuc w)
     by true e = cc
     by false e = clash cc
 
@@ -124,9 +123,9 @@ signs_more minus (m ∷ ms) w h = ap (λ (l : List ℤ). whole minus m ∷ l) (w
     wholes_more [] = refl
     wholes_more (n ∷ ns) = ap (λ (l : List ℤ). pos n ∷ l) (wholes_more ns)
 
-before_both : (zs : List ℤ) (z : ℤ) (r : Option (List ℤ)) → before zs (both (some z) r) ≡ before (zs ++ (z ∷ [])) r
-before_both zs z none = refl
-before_both zs z (some ys) = ap some (sym (append_snoc zs z ys))
+before_both : (zs : List ℤ) (z : ℤ) (r : Option (List ℤ)) → before zs (both (Some z) r) ≡ before (zs ++ (z ∷ [])) r
+before_both zs z None = refl
+before_both zs z (Some ys) = ap Some (sym (append_snoc zs z ys))
 
 -- behind the comma at a place: the text, its first part, and where that ends
 abbrev pub rest_at : List ℕ → ℕ → List ℕ
@@ -190,7 +189,7 @@ module _ (c : List ℕ) (at n : ℕ) (minus : Bool) (cells : List ℕ) (k : Colu
       later [] z ys g p = absurd (omega arith)
       later (m ∷ ms) z ys g p = plain_at_lem (wholes ms) z ys p
 
-      refused : (zs : List ℤ) → read_at c at ≡ some zs
+      refused : (zs : List ℤ) → read_at c at ≡ Some zs
           → Sayable (sign_first minus (take n cells) ++ zs) → ⊥
       refused zs q y =
           let b = both_some (read_whole (part_at c at)) (read_all (behind_comma (drop (end_at c at) c))) zs q in
@@ -204,7 +203,7 @@ module _ (c : List ℕ) (at n : ℕ) (minus : Bool) (cells : List ℕ) (k : Colu
       unread c k.numbers (sign_first minus (take n cells))
       (read_at c at) (turn h) refused
     where
-      refused : (zs : List ℤ) → read_at c at ≡ some zs
+      refused : (zs : List ℤ) → read_at c at ≡ Some zs
           → Sayable (sign_first minus (take n cells) ++ zs) → ⊥
       refused zs q y =
           let b = both_some (read_whole (part_at c at)) (read_all (behind_comma (drop (end_at c at) c))) zs q in
@@ -226,7 +225,7 @@ module _ (c : List ℕ) (cells : List ℕ) (room : Cells cells) (numbers : same 
   begins : read_all (split 44 c) ≡ read_first c
   begins = ap read_all (split_behind c)
 
-  column_begun : (minus : Bool) (w : ℕ) → read_whole (take (cut_at 44 c) c) ≡ some (whole minus w)
+  column_begun : (minus : Bool) (w : ℕ) → read_whole (take (cut_at 44 c) c) ≡ Some (whole minus w)
       → Column c (cut_at 44 c) 1 minus (set cells 0 w)
   column_begun minus w e =
       let more = read_all (behind_comma (drop (cut_at 44 c) c)) in
@@ -246,19 +245,19 @@ module _ (c : List ℕ) (cells : List ℕ) (room : Cells cells) (numbers : same 
       first_set [] v h = absurd (omega arith)
       first_set (x ∷ l) v h = refl
 
-      both_before : (z : ℤ) (r : Option (List ℤ)) → both (some z) r ≡ before (z ∷ []) r
-      both_before z none = refl
-      both_before z (some ys) = refl
+      both_before : (z : ℤ) (r : Option (List ℤ)) → both (Some z) r ≡ before (z ∷ []) r
+      both_before z None = refl
+      both_before z (Some ys) = refl
 
   pub column_none : small_of (read_whole (take (cut_at 44 c) c)) ≡ None → Spells c None cells
   column_none e =
       unread c numbers [] (read_first c) (begins ∙ alone _) refused
     where
       alone : (r : Option (List ℤ)) → r ≡ before [] r
-      alone none = refl
-      alone (some zs) = refl
+      alone None = refl
+      alone (Some zs) = refl
 
-      refused : (zs : List ℤ) → read_first c ≡ some zs
+      refused : (zs : List ℤ) → read_first c ≡ Some zs
           → Sayable ([] ++ zs) → ⊥
       refused zs q y =
           let b = both_some (read_whole (take (cut_at 44 c) c)) (read_all (behind_comma (drop (cut_at 44 c) c))) zs q in

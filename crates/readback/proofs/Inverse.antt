@@ -6,7 +6,6 @@ use Rattle.std.specs.Prelude.{Ok, Err, Some, None}
 use mathlib.Core.Path.{◌≡◌, refl, sym, ap, ◌∙◌, subst}
 use mathlib.Core.Bool.{Bool, true, false, cond}
 use mathlib.Core.List.{List, [], ◌∷◌, ◌++◌, append_assoc}
-use mathlib.Core.Option.{none}
 use Prim.Native.Nat.{ℕ, zero, suc, ◌+◌, ◌-◌, ◌*◌, ◌≤◌, ◌<◌}
 use native.Mathlib.Omega.{arith}
 use lib.ListN.{length, get_or, take, drop, length-append, length-drop, take-append-drop}
@@ -104,7 +103,7 @@ module _ (u : List ℕ) (bytes : Bytes u) (k : ℕ) (o : Operand) (z : ℕ) (d :
       ∙ ap Good e
 
 -- where nothing is left nothing is read
-nothing_read : (at : ℕ) (u : List ℕ) → length u ≡ 0 → instructions_from last_opcode at u ≡ stops_at at none
+nothing_read : (at : ℕ) (u : List ℕ) → length u ≡ 0 → instructions_from last_opcode at u ≡ stops_at at None
 unfolding instructions_from read_up_to
 nothing_read at [] e = refl
 nothing_read at (x ∷ u) e = absurd (omega arith)
@@ -114,7 +113,7 @@ module _ (room : ℕ) where
   abbrev ReadAs : (at : ℕ) (u : List ℕ) (read : Read) → Type 0
   ReadAs at u read = (k : ℕ) → lines_from k at room (split 10 (lines_of read)) ≡ Done u
 
-  read_end : (at : ℕ) (u : List ℕ) → length u ≡ 0 → ReadAs at u (stops_at at none)
+  read_end : (at : ℕ) (u : List ℕ) → length u ≡ 0 → ReadAs at u (stops_at at None)
   unfolding lines_from lines_of split
   read_end at [] e k = refl
   read_end at (x ∷ u) e k = absurd (omega arith)
@@ -139,8 +138,8 @@ module _ (room : ℕ) where
 
   -- by what stands at the front; `later` reads what is behind it
   read_step : (at : ℕ) (u : List ℕ) → Bytes u → at + length u ≤ room → (t : Step) → decode last_opcode at u ≡ t
-      → (read_by last_opcode (instructions_from last_opcode) at u t).fault ≡ none
-      → ((z : ℕ) → 0 < z → z ≤ length u → (instructions_from last_opcode (at + z) (drop z u)).fault ≡ none
+      → (read_by last_opcode (instructions_from last_opcode) at u t).fault ≡ None
+      → ((z : ℕ) → 0 < z → z ≤ length u → (instructions_from last_opcode (at + z) (drop z u)).fault ≡ None
       → ReadAs (at + z) (drop z u) (instructions_from last_opcode (at + z) (drop z u)))
       → ReadAs at u (read_by last_opcode (instructions_from last_opcode) at u t)
   read_step at u b h (Ok (Some (instr k o z))) e f later =
@@ -150,7 +149,7 @@ module _ (room : ℕ) where
   read_step at u b h (Err r) e f later = clash cc
 
   read_up : (n at : ℕ) (u : List ℕ) → length u ≤ n → Bytes u → at + length u ≤ room
-      → (instructions_from last_opcode at u).fault ≡ none
+      → (instructions_from last_opcode at u).fault ≡ None
       → ReadAs at u (instructions_from last_opcode at u)
   read_up zero at u l b h f =
       let none_left : length u ≡ 0 = omega arith in
@@ -168,7 +167,7 @@ module _ (room : ℕ) where
 -- what lines say that are read, from an offset on
 record Told (at room : ℕ) (ls : List (List ℕ)) (code : List ℕ) : Type 0 where
   text : join 10 ls ≡ lines_of (instructions_from last_opcode at code)
-  whole : (instructions_from last_opcode at code).fault ≡ none
+  whole : (instructions_from last_opcode at code).fault ≡ None
   fits : at + length code ≤ room
 
 never : {code : List ℕ} {r : Refusal} {k : ℕ} → Stopped r k ≡ Done code → ⊥
@@ -256,7 +255,7 @@ lines_fit room ls n k code e = omega (arith, (told_lines room ls n k 0 code (ome
 -- the header, and the lines behind it
 
 back : (cells : ℕ) (code : List ℕ) → Bytes code → length code ≤ most → length code ≤ cells
-    → (instructions_in last_opcode code).fault ≡ none
+    → (instructions_in last_opcode code).fault ≡ None
     → reading cells (listing_of code) ≡ Done code
 unfolding reading listing_of
 back cells code b m h f =

@@ -2,11 +2,10 @@
 -- Assumes nothing.
 use Rattle.op.specs.declared.Shape.{Shape}
 use Rattle.op.specs.declared.Refusal.{Refusal}
-use Rattle.std.specs.Prelude.{Ok, Err, Result}
+use Rattle.std.specs.Prelude.{Ok, Err, Result, None, Option, Some}
 use mathlib.Core.Path.{◌≡◌, refl, sym, ap, ◌∙◌, subst}
 use mathlib.Core.Bool.{Bool, true, false, cond}
 use mathlib.Core.List.{List}
-use mathlib.Core.Option.{Option, none, some}
 use Prim.Native.Nat.{ℕ, ◌≤◌, ◌<◌}
 use native.Mathlib.Omega.{arith}
 use lib.Dec.{leb, eqb}
@@ -35,16 +34,16 @@ use Rattle.readback.proofs.Saying.{nothing, only, got, Words, said_back, Says, s
 -- equal targets
 
 alike_self : (z : Option ℤ) → alike z z ≡ true
-alike_self none = refl
-alike_self (some z) = refl
+alike_self None = refl
+alike_self (Some z) = refl
 
 whole_self : (z : ℤ) → same_whole z z ≡ true
 whole_self (pos n) = eq-eqb n n refl
 whole_self (negsuc n) = eq-eqb n n refl
 
 target_self : (z : Option ℤ) → same_target z z ≡ true
-target_self none = refl
-target_self (some z) = whole_self z
+target_self None = refl
+target_self (Some z) = whole_self z
 
 whole_is : (y z : ℤ) → same_whole y z ≡ true → y ≡ z
 whole_is (pos m) (pos n) e = ap pos (eqb-true m n e)
@@ -53,15 +52,15 @@ whole_is (negsuc m) (pos n) e = clash cc
 whole_is (negsuc m) (negsuc n) e = ap negsuc (eqb-true m n e)
 
 target_is : (y z : Option ℤ) → same_target y z ≡ true → y ≡ z
-target_is none none e = refl
-target_is none (some z) e = clash cc
-target_is (some y) none e = clash cc
-target_is (some y) (some z) e = ap some (whole_is y z e)
+target_is None None e = refl
+target_is None (Some z) e = clash cc
+target_is (Some y) None e = clash cc
+target_is (Some y) (Some z) e = ap Some (whole_is y z e)
 
 -- the line of a well formed instruction in range gives its bytes
 module _ (at k : ℕ) (o : Operand) (names : List ℕ) (h : k < length table) (s : shape_of k ≡ Ok (operand_shape o))
     (r : InRange o) (c : names_in o ≡ length names) (w : Words names) where
-  formed_back : formed (row_text (row_of at k o names)) ≡ some (record { row = row_of at k o names; said = said o names })
+  formed_back : formed (row_text (row_of at k o names)) ≡ Some (record { row = row_of at k o names; said = said o names })
   unfolding formed formed_row and_then
   formed_back = rw (
     row_back (row_of at k o names) h,
@@ -98,14 +97,14 @@ pub record FormedOf (t : List ℕ) (f : Formed) : Type 0 where
   pub well : WellFormed f.row.opcode f.said.operand f.said.names
   pub says : Says (operand_shape f.said.operand) f.row.operands f.said
 
-by_shape : (r : Row) (x : Said) (p : Result Shape Refusal) → shape_of r.opcode ≡ p → said_by p r.operands ≡ some x
+by_shape : (r : Row) (x : Said) (p : Result Shape Refusal) → shape_of r.opcode ≡ p → said_by p r.operands ≡ Some x
     → (shape_of r.opcode ≡ Ok (operand_shape x.operand)) × Says (operand_shape x.operand) r.operands x
 by_shape r x (Err q) e s = absurd (nothing s)
 by_shape r x (Ok sh) e s =
     let y = said_only r.operands x sh s in
     (e ∙ ap Ok (sym y.shape), rw y.shape y)
 
-pub formed_only : (t : List ℕ) (f : Formed) → formed t ≡ some f → FormedOf t f
+pub formed_only : (t : List ℕ) (f : Formed) → formed t ≡ Some f → FormedOf t f
 unfolding formed formed_row
 formed_only t f e =
     let g = got (read_row t) formed_row f e in
@@ -164,8 +163,8 @@ module _ (at room : ℕ) (t bytes : List ℕ) where
       }
 
   by_formed : (f : Option Formed) → formed t ≡ f → judge_by at room f ≡ Good bytes → Judges at room t bytes
-  by_formed none q e = absurd (no_good e)
-  by_formed (some f) q e = judges f (formed_only t f q) e
+  by_formed None q e = absurd (no_good e)
+  by_formed (Some f) q e = judges f (formed_only t f q) e
 
   pub judge_only : judge at room t ≡ Good bytes → Judges at room t bytes
   unfolding judge

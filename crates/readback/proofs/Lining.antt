@@ -1,10 +1,9 @@
 -- A line as the code reads it: its fields, its instruction, its place, and its bytes.
 -- Assumes nothing.
-use Rattle.std.specs.Prelude.{Ok, Err, Result}
+use Rattle.std.specs.Prelude.{Ok, Err, Result, None, Option, Some}
 use mathlib.Core.Path.{◌≡◌, refl, ap, ◌∙◌, subst}
 use mathlib.Core.Bool.{Bool, true, false, cond, ◌&&◌}
 use mathlib.Core.List.{List, [], ◌∷◌}
-use mathlib.Core.Option.{Option, none, some}
 use Prim.Native.Nat.{ℕ, suc, ◌+◌, ◌-◌, ◌≤◌, ◌<◌}
 use native.Mathlib.Numerals.{add-one}
 use native.Mathlib.Omega.{arith}
@@ -44,8 +43,8 @@ alike_anywhere z m n O.None = refl
 alike_anywhere z m n (O.U8 a) = refl
 alike_anywhere z m n (O.I8 y) = refl
 alike_anywhere z m n (O.U16 a) = refl
-alike_anywhere none m n (O.Offset y) = refl
-alike_anywhere (some z) m n (O.Offset y) = refl
+alike_anywhere None m n (O.Offset y) = refl
+alike_anywhere (Some z) m n (O.Offset y) = refl
 alike_anywhere z m n (O.U8U8 a b) = refl
 alike_anywhere z m n (O.U16U8 a b) = refl
 alike_anywhere z m n (O.U16U16 a b) = refl
@@ -82,14 +81,14 @@ module _ (at room v k : ℕ) (x : Said) where
   by_target l z true e = both_columns (eqb v at) (same_target z (target_of at x.operand))
   by_target l z false e = no_target (eqb v at)
 
-  by_fields : (n : Bool) (zs : Option (List ℤ)) → and_then zs (said_by (shape_of k)) ≡ some x → (z : Option (Option ℤ))
+  by_fields : (n : Bool) (zs : Option (List ℤ)) → and_then zs (said_by (shape_of k)) ≡ Some x → (z : Option (Option ℤ))
       → judge_by at room (and_then (row n v true k zs z) formed_row)
       ≡ judged_as (verdict_of (offset_by at n v) (reached_of z (target_of at x.operand))) said_bytes_of room
   unfolding and_then formed_row judged_as reached_of
   by_fields false zs e z = refl
-  by_fields true none e z = absurd (nothing e)
-  by_fields true (some l) e none = no_target (eqb v at)
-  by_fields true (some l) e (some z) =
+  by_fields true None e z = absurd (nothing e)
+  by_fields true (Some l) e None = no_target (eqb v at)
+  by_fields true (Some l) e (Some z) =
       rw (e, alike_anywhere z v at x.operand) (by_target l z (alike z (target_of at x.operand)) refl)
 
 -- a line that is refused changes nothing
@@ -100,7 +99,7 @@ module _ (at room : ℕ) (a b c d : List ℕ) where
   abbrev Fields : List (List ℕ)
   Fields = a ∷ b ∷ c ∷ d ∷ []
 
-  pub judge_said : (x : Said) → said_in (opcode_of b) (read_operands c) ≡ some x
+  pub judge_said : (x : Said) → said_in (opcode_of b) (read_operands c) ≡ Some x
       → judge_by at room (and_then (read_fields Fields) formed_row)
       ≡ judged_as (verdict_of (offset_of at a) (reached_of (read_target d) (target_of at x.operand)))
       (encode (opcode_of b) x.operand x.names) room
@@ -111,16 +110,16 @@ module _ (at room : ℕ) (a b c d : List ℕ) where
       (by_fields at room (value a) (opcode_of b) x (natural a) (read_operands c) s.read (read_target d))
 
   unsaid_by : (n kn : Bool) (v k : ℕ) (zs : Option (List ℤ)) (z : Option (Option ℤ))
-      → cond kn (and_then zs (said_by (shape_of k))) none ≡ none
-      → and_then (row n v kn k zs z) formed_row ≡ none
+      → cond kn (and_then zs (said_by (shape_of k))) None ≡ None
+      → and_then (row n v kn k zs z) formed_row ≡ None
   unfolding and_then formed_row
   unsaid_by false kn v k zs z e = refl
   unsaid_by true false v k zs z e = refl
-  unsaid_by true true v k none z e = refl
-  unsaid_by true true v k (some l) none e = refl
-  unsaid_by true true v k (some l) (some z) e = rw e
+  unsaid_by true true v k None z e = refl
+  unsaid_by true true v k (Some l) None e = refl
+  unsaid_by true true v k (Some l) (Some z) e = rw e
 
-  pub judge_unsaid : said_in (opcode_of b) (read_operands c) ≡ none
+  pub judge_unsaid : said_in (opcode_of b) (read_operands c) ≡ None
       → judge_by at room (and_then (read_fields Fields) formed_row) ≡ Bad NotALine
   unfolding said_in
   judge_unsaid e =
@@ -147,7 +146,7 @@ module _ (t : List ℕ) where
   unfolding formed read_row
   formed_by_lem fs e = ap (λ (l : List (List ℕ)). and_then (read_fields l) formed_row) e
 
-  one_field : Last t → formed t ≡ none
+  one_field : Last t → formed t ≡ None
   unfolding and_then
   one_field l = formed_by_lem (t ∷ []) (split_whole 9 t l)
 
@@ -155,7 +154,7 @@ module _ (t : List ℕ) where
     abbrev T₁ : List ℕ
     T₁ = behind_tab t
 
-    two_fields : Last T₁ → formed t ≡ none
+    two_fields : Last T₁ → formed t ≡ None
     unfolding and_then
     two_fields l =
         formed_by_lem (first_of t ∷ T₁ ∷ [])
@@ -171,7 +170,7 @@ module _ (t : List ℕ) where
       parts₂ : split 9 t ≡ two (split 9 T₂)
       parts₂ = split_cut 9 t t₁ ∙ ap (λ (ps : List (List ℕ)). first_of t ∷ ps) (split_cut 9 T₁ t₂)
 
-      three_fields : Last T₂ → formed t ≡ none
+      three_fields : Last T₂ → formed t ≡ None
       unfolding and_then
       three_fields l = formed_by_lem (two (T₂ ∷ [])) (parts₂ ∙ ap two (split_whole 9 T₂ l))
 
@@ -186,12 +185,12 @@ module _ (t : List ℕ) where
         parts₃ = parts₂ ∙ ap two (split_cut 9 T₂ t₃)
 
         five : (p : List ℕ) (ps : List (List ℕ)) → (ps ≡ [] → ⊥)
-            → and_then (read_fields (three (p ∷ ps))) formed_row ≡ none
+            → and_then (read_fields (three (p ∷ ps))) formed_row ≡ None
         unfolding and_then
         five p [] n = absurd (n refl)
         five p (q ∷ ps) n = refl
 
-        more_fields : Tab T₃ → formed t ≡ none
+        more_fields : Tab T₃ → formed t ≡ None
         more_fields t₄ =
             formed_by_lem (three (first_of T₃ ∷ split 9 (behind_tab T₃))) (parts₃ ∙ ap three (split_cut 9 T₃ t₄))
             ∙ five (first_of T₃) (split 9 (behind_tab T₃)) (split_some 9 (behind_tab T₃))
@@ -209,7 +208,7 @@ tab_rest : (t : List ℕ) (a : ℕ) → a ≡ cut_at 9 t → rest t a ≡ behind
 tab_rest t a e = rest_is t (a + 1) ∙ ap (λ (n : ℕ). drop n t) (add-one a ∙ ap suc e)
 
 module _ (t : List ℕ) (a : ℕ) (ea : a ≡ cut_at 9 t) where
-  pub found_one : length t ≤ a → formed t ≡ none
+  pub found_one : length t ≤ a → formed t ≡ None
   found_one l = one_field t (omega arith)
 
   module _ (ha : a < length t) where
@@ -220,7 +219,7 @@ module _ (t : List ℕ) (a : ℕ) (ea : a ≡ cut_at 9 t) where
     r₁ = tab_rest t a ea
 
     module _ (b : ℕ) (eb : b ≡ cut_at 9 (rest t a)) where
-      pub found_two : length (rest t a) ≤ b → formed t ≡ none
+      pub found_two : length (rest t a) ≤ b → formed t ≡ None
       found_two l = two_fields t t₁ (subst Last r₁ (omega arith))
 
       module _ (hb : b < length (rest t a)) where
@@ -231,7 +230,7 @@ module _ (t : List ℕ) (a : ℕ) (ea : a ≡ cut_at 9 t) where
         r₂ = tab_rest (rest t a) b eb ∙ ap (λ (l : List ℕ). behind_tab l) r₁
 
         module _ (c : ℕ) (ec : c ≡ cut_at 9 (rest (rest t a) b)) where
-          pub found_three : length (rest (rest t a) b) ≤ c → formed t ≡ none
+          pub found_three : length (rest (rest t a) b) ≤ c → formed t ≡ None
           found_three l = three_fields t t₁ t₂ (subst Last r₂ (omega arith))
 
           module _ (hc : c < length (rest (rest t a) b)) where
@@ -242,7 +241,7 @@ module _ (t : List ℕ) (a : ℕ) (ea : a ≡ cut_at 9 t) where
             r₃ = tab_rest (rest (rest t a) b) c ec ∙ ap (λ (l : List ℕ). behind_tab l) r₂
 
             module _ (d : ℕ) (ed : d ≡ cut_at 9 (rest (rest (rest t a) b) c)) where
-              pub found_more : d < length (rest (rest (rest t a) b) c) → formed t ≡ none
+              pub found_more : d < length (rest (rest (rest t a) b) c) → formed t ≡ None
               found_more l = more_fields t t₁ t₂ t₃ (subst Tab r₃ (omega arith))
 
               pub found_four : length (rest (rest (rest t a) b) c) ≤ d

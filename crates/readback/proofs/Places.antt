@@ -2,11 +2,10 @@
 -- Assumes nothing.
 use Rattle.words.specs.declared.NumberError.TheVariants.{Not}
 use Rattle.words.specs.declared.NumberError.TheVariants.{Large}
-use Rattle.std.specs.Prelude.{Ok, Err}
+use Rattle.std.specs.Prelude.{Ok, Err, None, Option, Some}
 use mathlib.Core.Path.{◌≡◌, refl, sym, ap, subst}
 use mathlib.Core.Bool.{Bool, true, false, cond}
 use mathlib.Core.List.{List}
-use mathlib.Core.Option.{Option, none, some}
 use Prim.Native.Nat.{ℕ, suc, ◌+◌, ◌-◌, ◌≤◌, ◌<◌}
 use native.Mathlib.Decide.{dec_lt}
 use native.Mathlib.Omega.{arith}
@@ -32,7 +31,7 @@ use Rattle.readback.specs.declared.placing.Met.TheVariants as M
 -- the displacement
 
 pub no_jump : (o : Operand) → ((z : ℤ) → o ≡ O.Offset z → ⊥) → (at : ℕ)
-    → target_of at o ≡ none
+    → target_of at o ≡ None
 no_jump O.None t at = refl
 no_jump (O.U8 a) t at = refl
 no_jump (O.I8 z) t at = refl
@@ -110,36 +109,36 @@ met_minus n (negsuc m) h false e =
 pub met_reached : (y : Option ℤ) (z : ℤ) → (goal_of z).size ≤ 131100
     → met_of (whole_of y) (goal_of z).below (goal_of z).size ≡ reached_by y z
 unfolding whole_of reached_by met_of fitted
-met_reached none z h = refl
-met_reached (some (pos n)) z h = met_plus n z h (leb n 18446744073709551615) refl
-met_reached (some (negsuc n)) z h = met_minus n z h (leb (suc n) 18446744073709551615) refl
+met_reached None z h = refl
+met_reached (Some (pos n)) z h = met_plus n z h (leb n 18446744073709551615) refl
+met_reached (Some (negsuc n)) z h = met_minus n z h (leb (suc n) 18446744073709551615) refl
 
 -- a target column
 
-pub reached_jump : (t : List ℕ) (z : ℤ) → reached_by (read_whole t) z ≡ reached_of (read_target t) (some z)
+pub reached_jump : (t : List ℕ) (z : ℤ) → reached_by (read_whole t) z ≡ reached_of (read_target t) (Some z)
 unfolding reached_by reached_of
 reached_jump t z = by (same t dash) refl
   where
-    told : (y : Option ℤ) → reached_by y z ≡ reached_of (present y) (some z)
-    told none = refl
-    told (some y) = refl
+    told : (y : Option ℤ) → reached_by y z ≡ reached_of (present y) (Some z)
+    told None = refl
+    told (Some y) = refl
 
     by : (b : Bool) → same t dash ≡ b
-        → reached_by (read_whole t) z ≡ reached_of (cond b (some none) (present (read_whole t))) (some z)
+        → reached_by (read_whole t) z ≡ reached_of (cond b (Some None) (present (read_whole t))) (Some z)
     by true e = ap (λ (l : List ℕ). reached_by (read_whole l) z) (yes_same t dash e)
     by false e = told (read_whole t)
 
-pub reached_dash : (t : List ℕ) → same t dash ≡ true → M.Here ≡ reached_of (read_target t) none
+pub reached_dash : (t : List ℕ) → same t dash ≡ true → M.Here ≡ reached_of (read_target t) None
 unfolding reached_of
 reached_dash t e = rw e
 
-pub reached_other : (t : List ℕ) → same t dash ≡ false → M.Not ≡ reached_of (read_target t) none
+pub reached_other : (t : List ℕ) → same t dash ≡ false → M.Not ≡ reached_of (read_target t) None
 unfolding reached_of
 reached_other t e = rw e (by (read_whole t))
   where
-    by : (y : Option ℤ) → M.Not ≡ reached_of (present y) none
-    by none = refl
-    by (some y) = refl
+    by : (y : Option ℤ) → M.Not ≡ reached_of (present y) None
+    by None = refl
+    by (Some y) = refl
 
 -- an offset column
 

@@ -2,11 +2,10 @@
 -- Assumes nothing.
 use Rattle.readback.specs.declared.numbers.Small.TheVariants as Z
 use Rattle.words.specs.declared.NumberError.TheVariants.{Large}
-use Rattle.std.specs.Prelude.{Ok, Err, Some, None}
+use Rattle.std.specs.Prelude.{Ok, Err, Some, None, Option}
 use mathlib.Core.Path.{◌≡◌, refl, sym, ◌∙◌, subst}
 use mathlib.Core.Bool.{Bool, true, false, cond}
 use mathlib.Core.List.{List, [], ◌∷◌}
-use mathlib.Core.Option.{Option, none, some}
 use Prim.Native.Nat.{ℕ, suc, ◌-◌, ◌≤◌, ◌<◌}
 use native.Mathlib.Decide.{dec_lt}
 use native.Mathlib.Omega.{arith}
@@ -57,13 +56,13 @@ near_minus n h =
 
 pub narrow_is : (z : Option ℤ) → narrow_of (whole_of z) ≡ small_of z
 unfolding whole_of small_of narrow_of fitted
-narrow_is none = refl
-narrow_is (some (pos n)) = by (dec_lt 65535 n)
+narrow_is None = refl
+narrow_is (Some (pos n)) = by (dec_lt 65535 n)
   where
     by : Dec (65535 < n) → narrow_of (plus_of (fitted n)) ≡ cond (ltb n 65536) (Some (Z.Plus n)) None
     by (yes h) = far_plus n h (leb n 18446744073709551615) ∙ rw (le-ltb n 65536 h)
     by (no h) = near_plus n (omega arith) ∙ rw (lt-ltb n 65536 (omega arith))
-narrow_is (some (negsuc n)) = by (dec_lt 65535 n)
+narrow_is (Some (negsuc n)) = by (dec_lt 65535 n)
   where
     by : Dec (65535 < n) → narrow_of (minus_of (fitted (suc n))) ≡ cond (ltb n 65536) (Some (Z.Minus n)) None
     by (yes h) = far_minus n h (leb (suc n) 18446744073709551615) ∙ rw (le-ltb n 65536 h)
@@ -118,11 +117,11 @@ sayable (O.U16U16U8 a b d) ns r c w =
     record { size = omega arith; near = omega (arith, r.0); plain = (omega (arith, r.1), (omega (arith, r.2), tt)) }
 
 -- what is not so is said by no shape
-pub unsaid : (zs : List ℤ) → (Sayable zs → ⊥) → (s : Shape) → operand_for s zs ≡ none
+pub unsaid : (zs : List ℤ) → (Sayable zs → ⊥) → (s : Shape) → operand_for s zs ≡ None
 unsaid zs n s = by (operand_for s zs) refl
   where
-    by : (o : Option Said) → operand_for s zs ≡ o → operand_for s zs ≡ none
-    by none e = e
-    by (some x) e =
+    by : (o : Option Said) → operand_for s zs ≡ o → operand_for s zs ≡ None
+    by None e = e
+    by (Some x) e =
         let y = said_only zs x s e in
         absurd (n (subst Sayable (sym y.numbers) (sayable x.operand x.names y.range y.count y.words)))

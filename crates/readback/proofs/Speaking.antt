@@ -1,12 +1,11 @@
 -- The numbers that cells hold, and what they say by a shape, as the code finds it.
 -- Assumes nothing.
-use Rattle.std.specs.Prelude.{Option as Maybe}
+use Rattle.std.specs.Prelude.{Option}
 use Rattle.readback.specs.declared.operands.Spoken.{Spoken}
 use Rattle.std.specs.Prelude.{Some, None}
 use mathlib.Core.Path.{◌≡◌, refl, ap, ◌∙◌}
 use mathlib.Core.Bool.{Bool, true, false, cond, not, ◌&&◌}
 use mathlib.Core.List.{List, [], ◌∷◌}
-use mathlib.Core.Option.{Option, none, some}
 use Prim.Native.Nat.{ℕ, zero, suc, ◌-◌, ◌%◌, ◌≤◌, ◌<◌}
 use native.Mathlib.Omega.{arith}
 use lib.Dec.{leb, ltb, eqb}
@@ -40,12 +39,12 @@ pub length_signs : (minus : Bool) (ms : List ℕ) → length (sign_first minus m
 length_signs minus [] = refl
 length_signs minus (m ∷ ms) = ap suc (length_wholes ms)
 
-first_wholes : (ns : List ℕ) (i : ℕ) → i < length ns → first (drop i (wholes ns)) ≡ some (pos (get_or ns i 0))
+first_wholes : (ns : List ℕ) (i : ℕ) → i < length ns → first (drop i (wholes ns)) ≡ Some (pos (get_or ns i 0))
 first_wholes [] i h = absurd (omega arith)
 first_wholes (n ∷ ns) zero h = refl
 first_wholes (n ∷ ns) (suc i) h = first_wholes ns i (omega arith)
 
-none_past : (zs : List ℤ) (i : ℕ) → length zs ≤ i → first (drop i zs) ≡ none
+none_past : (zs : List ℤ) (i : ℕ) → length zs ≤ i → first (drop i zs) ≡ None
 none_past [] zero h = refl
 none_past [] (suc i) h = refl
 none_past (z ∷ zs) zero h = absurd (omega arith)
@@ -57,7 +56,7 @@ sign_at minus zero = minus
 sign_at minus (suc i) = false
 
 first_signs : (minus : Bool) (ms : List ℕ) (i : ℕ) → i < length ms
-    → first (drop i (sign_first minus ms)) ≡ some (whole (sign_at minus i) (get_or ms i 0))
+    → first (drop i (sign_first minus ms)) ≡ Some (whole (sign_at minus i) (get_or ms i 0))
 first_signs minus [] i h = absurd (omega arith)
 first_signs minus (m ∷ ms) zero h = refl
 first_signs minus (m ∷ ms) (suc i) h = first_wholes ms i (omega arith)
@@ -93,7 +92,7 @@ low false n = refl
 low true n = by (ltb n 256) refl
   where
     by : (b : Bool) → ltb n 256 ≡ b → only_if b n ≡ only_if b (n % 256)
-    by true e = let h = ltb-true n 256 e in ap some (omega arith)
+    by true e = let h = ltb-true n 256 e in ap Some (omega arith)
     by false e = refl
 
 -- a field has a number, if it fits
@@ -129,28 +128,28 @@ module _ (minus : Bool) (ms : List ℕ) (i : ℕ) where
 
 -- fields one after the other: what they say, if each number fits
 
-both : (t u : Bool) (r : Maybe Spoken) → cond t (cond u r None) None ≡ cond (t && u) r None
+both : (t u : Bool) (r : Option Spoken) → cond t (cond u r None) None ≡ cond (t && u) r None
 both true u r = refl
 both false u r = refl
 
 module _ (count : ℕ) where
-  held : {A : Type 0} (t : Bool) (x : A) (f : A → Option Said) {r : Maybe Spoken} → (t ≡ true → spoken_of count (f x) ≡ r)
+  held : {A : Type 0} (t : Bool) (x : A) (f : A → Option Said) {r : Option Spoken} → (t ≡ true → spoken_of count (f x) ≡ r)
       → spoken_of count (and_then (only_if t x) f) ≡ cond t r None
   unfolding and_then spoken_of
   held true x f k = k refl
   held false x f k = refl
 
-  one : {A : Type 0} {o : Option A} {t : Bool} {x : A} {r : Maybe Spoken} → Field o t x → (f : A → Option Said)
+  one : {A : Type 0} {o : Option A} {t : Bool} {x : A} {r : Option Spoken} → Field o t x → (f : A → Option Said)
       → (t ≡ true → spoken_of count (f x) ≡ r)
       → spoken_of count (and_then o f) ≡ cond t r None
   one {t} {x} a f k = rw a.is (held t x f k)
 
-  two : {o p : Option ℕ} {t u : Bool} {x y : ℕ} {r : Maybe Spoken} → Field o t x → Field p u y → (f : ℕ → ℕ → Option Said)
+  two : {o p : Option ℕ} {t u : Bool} {x y : ℕ} {r : Option Spoken} → Field o t x → Field p u y → (f : ℕ → ℕ → Option Said)
       → (t ≡ true → u ≡ true → spoken_of count (f x y) ≡ r)
       → spoken_of count (and_then o (λ a. and_then p (f a))) ≡ cond (t && u) r None
   two {t} {u} {x} {r} a b f k = one a _ (λ s. one b (f x) (k s)) ∙ both t u r
 
-  three : {o p q : Option ℕ} {t u v : Bool} {x y z : ℕ} {r : Maybe Spoken} → Field o t x → Field p u y → Field q v z
+  three : {o p q : Option ℕ} {t u v : Bool} {x y z : ℕ} {r : Option Spoken} → Field o t x → Field p u y → Field q v z
       → (f : ℕ → ℕ → ℕ → Option Said)
       → (t ≡ true → u ≡ true → v ≡ true → spoken_of count (f x y z) ≡ r)
       → spoken_of count (and_then o (λ a. and_then p (λ b. and_then q (f a b)))) ≡ cond ((t && u) && v) r None
@@ -205,7 +204,7 @@ alone : (half : ℕ) (minus : Bool) (ms : List ℕ) (say : ℤ → Operand) (z :
 unfolding signed_at and_then spoken_of
 alone half minus [] say z h = by (ltb 0 half)
   where
-    by : (b : Bool) → ◌≡◌ {A = Maybe Spoken} None (cond b None None)
+    by : (b : Bool) → ◌≡◌ {A = Option Spoken} None (cond b None None)
     by true = refl
     by false = refl
 alone half minus (m ∷ ms) say z h = rw (mag_whole minus m)

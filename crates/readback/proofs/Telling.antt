@@ -1,11 +1,10 @@
 -- An instruction by its name and its operand column, and its bytes.
 -- Assumes nothing.
 use Rattle.op.specs.Effects.{by}
-use Rattle.std.specs.Prelude.{Ok, Err, Some, None, Result}
+use Rattle.std.specs.Prelude.{Ok, Err, Some, None, Result, Option}
 use mathlib.Core.Path.{◌≡◌, refl, sym, ap, ◌∙◌}
 use mathlib.Core.Bool.{Bool, true, false, cond}
 use mathlib.Core.List.{List, [], ◌∷◌}
-use mathlib.Core.Option.{Option, none, some}
 use Prim.Native.Nat.{ℕ, zero, suc, ◌+◌, ◌-◌, ◌≤◌, ◌<◌}
 use native.Mathlib.Decide.{dec_lt}
 use native.Mathlib.Omega.{arith}
@@ -83,11 +82,11 @@ module _ (k : ℕ) (o : Operand) (names : List ℕ) (s : Storable k o names) whe
 
 -- an instruction by its name and its operand column
 
-chosen : (b : Bool) (x : Option Said) (y : Said) → cond b x none ≡ some y → (b ≡ true) × (x ≡ some y)
+chosen : (b : Bool) (x : Option Said) (y : Said) → cond b x None ≡ Some y → (b ≡ true) × (x ≡ Some y)
 chosen true x y e = (refl, e)
 chosen false x y e = absurd (nothing e)
 
-neither : (b : Bool) (x : Option Said) → x ≡ none → cond b x none ≡ none
+neither : (b : Bool) (x : Option Said) → x ≡ None → cond b x None ≡ None
 neither true x e = e
 neither false x e = refl
 
@@ -96,27 +95,27 @@ unfolding known
 known_shape k s e = le-leb k last_opcode (shape_known k s e)
 
 module _ (k : ℕ) (zs : Option (List ℤ)) where
-  pub said_unknown : (r : Refusal) → shape_of k ≡ Err r → said_in k zs ≡ none
+  pub said_unknown : (r : Refusal) → shape_of k ≡ Err r → said_in k zs ≡ None
   unfolding said_in and_then
   said_unknown r e = neither (known k) (and_then zs (said_by (shape_of k))) (rw e (by zs))
     where
-      by : (y : Option (List ℤ)) → and_then y (said_by (Err r)) ≡ none
-      by none = refl
-      by (some l) = refl
+      by : (y : Option (List ℤ)) → and_then y (said_by (Err r)) ≡ None
+      by None = refl
+      by (Some l) = refl
 
   module _ (s : Shape) (is : shape_of k ≡ Ok s) where
-    pub said_none : and_then zs (operand_for s) ≡ none → said_in k zs ≡ none
+    pub said_none : and_then zs (operand_for s) ≡ None → said_in k zs ≡ None
     unfolding said_in
     said_none e = neither (known k) (and_then zs (said_by (shape_of k))) (rw is e)
 
-    pub said_some : (l : List ℤ) (x : Said) → zs ≡ some l → operand_for s l ≡ some x → said_in k zs ≡ some x
+    pub said_some : (l : List ℤ) (x : Said) → zs ≡ Some l → operand_for s l ≡ Some x → said_in k zs ≡ Some x
     unfolding said_in and_then
     said_some l x q e = rw (known_shape k s is, is, q, e)
 
   -- what it says that they are one
   pub record Saying (x : Said) : Type 0 where
     pub known_is : known k ≡ true
-    pub read : and_then zs (said_by (shape_of k)) ≡ some x
+    pub read : and_then zs (said_by (shape_of k)) ≡ Some x
     pub storable : Storable k x.operand x.names
 
   few_names : (o : Operand) → InRange o → names_in o ≤ 255
@@ -133,7 +132,7 @@ module _ (k : ℕ) (zs : Option (List ℤ)) where
   few_names (O.CallAttrKw a p n) r = omega (arith, r.2)
   few_names (O.U16U16U8 a b c) r = omega arith
 
-  by_shape : (x : Said) (l : List ℤ) (p : Result Shape Refusal) → shape_of k ≡ p → said_by p l ≡ some x
+  by_shape : (x : Said) (l : List ℤ) (p : Result Shape Refusal) → shape_of k ≡ p → said_by p l ≡ Some x
       → Storable k x.operand x.names
   by_shape x l (Err r) e q = absurd (nothing q)
   by_shape x l (Ok s) e q =
@@ -143,15 +142,15 @@ module _ (k : ℕ) (zs : Option (List ℤ)) where
         few = omega (arith, y.count, few_names x.operand y.range);
       }
 
-  pub saying : (x : Said) → said_in k zs ≡ some x → Saying x
+  pub saying : (x : Said) → said_in k zs ≡ Some x → Saying x
   unfolding said_in
   saying x e =
       let c = chosen (known k) (and_then zs (said_by (shape_of k))) x e in
       let g = got zs (said_by (shape_of k)) x c.1 in
       record { known_is = c.0; read = c.1; storable = by_shape x g.value (shape_of k) refl g.rest }
 
-pub unsaid_column : (s : Shape) (zs : Option (List ℤ)) (l : List ℤ) → zs ≡ some l → operand_for s l ≡ none
-    → and_then zs (operand_for s) ≡ none
+pub unsaid_column : (s : Shape) (zs : Option (List ℤ)) (l : List ℤ) → zs ≡ Some l → operand_for s l ≡ None
+    → and_then zs (operand_for s) ≡ None
 unfolding and_then
 unsaid_column s zs l q e = rw (q, e)
 
@@ -162,11 +161,11 @@ module _ (s : Shape) (minus : Bool) (ms : List ℕ) where
 
   spoken_by_lem : (y : Option Said) → operand_for s (sign_first minus ms) ≡ y → (o : Operand) (from : ℕ)
       → Some (spoken_with o from) ≡ spoken_of (length ms) y
-      → (x : Said) × (operand_for s (sign_first minus ms) ≡ some x) × (x.operand ≡ o)
+      → (x : Said) × (operand_for s (sign_first minus ms) ≡ Some x) × (x.operand ≡ o)
       × (from ≡ length ms - length x.names)
   unfolding spoken_of
-  spoken_by_lem none q o from e = clash cc
-  spoken_by_lem (some x) q o from e = (
+  spoken_by_lem None q o from e = clash cc
+  spoken_by_lem (Some x) q o from e = (
     x,
     q,
     ap (λ (s : Spoken). s.operand) (sym (same_spoken e)),
@@ -174,13 +173,13 @@ module _ (s : Shape) (minus : Bool) (ms : List ℕ) where
   )
 
   pub spoken_none : None ≡ spoken_of (length ms) (operand_for s (sign_first minus ms))
-      → operand_for s (sign_first minus ms) ≡ none
+      → operand_for s (sign_first minus ms) ≡ None
   unfolding spoken_of
   spoken_none e = by (operand_for s (sign_first minus ms)) e
     where
-      by : (y : Option Said) → None ≡ spoken_of (length ms) y → y ≡ none
-      by none e = refl
-      by (some x) e = clash cc
+      by : (y : Option Said) → None ≡ spoken_of (length ms) y → y ≡ None
+      by None e = refl
+      by (Some x) e = clash cc
 
   wholes_same : (a b : List ℕ) → wholes a ≡ wholes b → a ≡ b
   wholes_same [] [] e = refl
@@ -221,13 +220,13 @@ module _ (s : Shape) (minus : Bool) (ms : List ℕ) where
   names_last (O.U16U16U8 a b d) ns e c = no_names ns c
 
   pub spoken_some : (o : Operand) (from : ℕ) → Some (spoken_with o from) ≡ spoken_of (length ms) (operand_for s (sign_first minus ms))
-      → (from ≤ length ms) × (operand_for s (sign_first minus ms) ≡ some (said o (drop from ms)))
+      → (from ≤ length ms) × (operand_for s (sign_first minus ms) ≡ Some (said o (drop from ms)))
   spoken_some o from e =
       let b = spoken_by_lem (operand_for s (sign_first minus ms)) refl o from e in
       let x = b.0 in
       let y = said_only (sign_first minus ms) x s b.1 in
       let n = names_last x.operand x.names y.numbers y.count ∙ ap (λ (i : ℕ). drop i ms) (sym b.3) in
-      let said_is = ap (λ (p : Operand). some (said p x.names)) b.2 ∙ ap (λ (l : List ℕ). some (said o l)) n in
+      let said_is = ap (λ (p : Operand). Some (said p x.names)) b.2 ∙ ap (λ (l : List ℕ). Some (said o l)) n in
       (omega (arith, b.3), b.1 ∙ said_is)
 
 -- the part of the cells that holds the names

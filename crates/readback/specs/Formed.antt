@@ -1,8 +1,7 @@
 -- One line: refusals 24, 25 and 18, in this order (R68 to R71).
 -- Assumes nothing.
 use Rattle.op.specs.declared.Shape.{Shape}
-use Rattle.std.specs.Prelude.{Bool, true, false, cond, ◌&&◌, List, ℕ, leb, eqb, ℤ, pos, negsuc, length, Ok, Err, Result}
-use Rattle.std.proofs.Math.Option.{Option, none, some}
+use Rattle.std.specs.Prelude.{Bool, true, false, cond, ◌&&◌, List, ℕ, leb, eqb, ℤ, pos, negsuc, length, Ok, Err, Result, None, Option, Some}
 use Rattle.op.specs.Shapes.{shape_of}
 use Rattle.op.specs.declared.Refusal.{Refusal}
 use Rattle.op.specs.declared.Refusal.TheVariants.{Full, NotALine, Disagrees}
@@ -19,15 +18,15 @@ pub record Formed : Type 0 where
 
 -- "the target `-` for all but jumps": both are there, or neither
 abbrev pub alike : Option ℤ → Option ℤ → Bool
-alike none none = true
-alike none (some z) = false
-alike (some y) none = false
-alike (some y) (some z) = true
+alike None None = true
+alike None (Some z) = false
+alike (Some y) None = false
+alike (Some y) (Some z) = true
 
 -- the numbers of an operand column, by the shape of the opcode
 abbrev pub said_by : Result Shape Refusal → List ℤ → Option Said
 said_by (Ok s) zs = operand_for s zs
-said_by (Err r) zs = none
+said_by (Err r) zs = None
 
 -- a row with what its operands say
 abbrev pub formed_by : Row → Said → Option Formed
@@ -49,10 +48,10 @@ same_whole (negsuc m) (pos n) = false
 same_whole (negsuc m) (negsuc n) = eqb m n
 
 abbrev pub same_target : Option ℤ → Option ℤ → Bool
-same_target none none = true
-same_target none (some z) = false
-same_target (some y) none = false
-same_target (some y) (some z) = same_whole y z
+same_target None None = true
+same_target None (Some z) = false
+same_target (Some y) None = false
+same_target (Some y) (Some z) = same_whole y z
 
 -- 25: "the offset column must equal the offset that results, and target and displacement must agree" (R69)
 unfoldable pub agrees : ℕ → Formed → Bool
@@ -73,8 +72,8 @@ judge_formed at room f =
     cond (agrees at f) (cond (leb (length (bytes_in f)) room) (Good (bytes_in f)) (Bad (Full Code))) (Bad Disagrees)
 
 abbrev pub judge_by : (at room : ℕ) → Option Formed → Judged
-judge_by at room none = Bad NotALine
-judge_by at room (some f) = judge_formed at room f
+judge_by at room None = Bad NotALine
+judge_by at room (Some f) = judge_formed at room f
 
 -- 24, then 25, then 18 (R71)
 unfoldable pub judge : (at room : ℕ) → List ℕ → Judged

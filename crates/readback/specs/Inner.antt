@@ -1,6 +1,6 @@
 -- What the functions that read a line promise each other.
 -- Assumes nothing.
-use Rattle.std.specs.Prelude.{Option as Maybe}
+use Rattle.std.specs.Prelude.{Option}
 use Rattle.readback.specs.declared.numbers.Small.TheVariants as Z
 use Rattle.words.specs.declared.Signed.TheVariants as W
 use Rattle.readback.specs.declared.operands.Spoken.{Spoken}
@@ -9,7 +9,6 @@ use Rattle.readback.specs.declared.numbers.Small.{Small}
 use Rattle.words.specs.declared.Signed.{Signed}
 use Rattle.words.specs.declared.NumberError.{NumberError}
 use Rattle.std.specs.Prelude.{◌≡◌, Bool, true, false, cond, not, ◌&&◌, List, [], ◌∷◌, ◌++◌, ℕ, suc, ◌+◌, ◌-◌, ◌*◌, ◌%◌, ◌≤◌, ◌<◌, leb, ltb, eqb, ℤ, pos, negsuc, length, get_or, take, drop, set, replicate, Ok, Err, Some, None, Result}
-use Rattle.std.proofs.Math.Option.{Option, none, some}
 use Rattle.op.specs.Names.{name_in, name_text, name_starts}
 use Rattle.op.specs.Opcodes.{Row as Opcode}
 use Rattle.op.specs.Opcodes.{table}
@@ -67,13 +66,13 @@ sign_first minus [] = []
 sign_first minus (n ∷ ns) = whole minus n ∷ wholes ns
 
 -- a number in 16 bits and a sign
-unfoldable pub small_of : Option ℤ → Maybe Small
-small_of none = None
-small_of (some (pos n)) = cond (ltb n 65536) (Some (Z.Plus n)) None
-small_of (some (negsuc n)) = cond (ltb n 65536) (Some (Z.Minus n)) None
+unfoldable pub small_of : Option ℤ → Option Small
+small_of None = None
+small_of (Some (pos n)) = cond (ltb n 65536) (Some (Z.Plus n)) None
+small_of (Some (negsuc n)) = cond (ltb n 65536) (Some (Z.Minus n)) None
 
 -- the same of a number in 64 bits and a sign
-unfoldable pub narrow_of : Result Signed NumberError → Maybe Small
+unfoldable pub narrow_of : Result Signed NumberError → Option Small
 narrow_of (Ok (W.Plus v)) = cond (leb v 65535) (Some (Z.Plus v)) None
 narrow_of (Ok (W.Minus v)) = cond (leb v 65536) (cond (eqb v 0) None (Some (Z.Minus (v - 1)))) None
 narrow_of (Err e) = None
@@ -88,8 +87,8 @@ Cells cells = length cells ≡ most_numbers
 
 -- numbers in front of what is read behind them
 abbrev pub before : List ℤ → Option (List ℤ) → Option (List ℤ)
-before zs none = none
-before zs (some more) = some (zs ++ more)
+before zs None = None
+before zs (Some more) = Some (zs ++ more)
 
 -- the parts behind the comma at a place, none at the end
 abbrev pub behind_comma : List ℕ → List (List ℕ)
@@ -110,15 +109,15 @@ pub record Begun (c : List ℕ) (end : ℕ) (minus : Bool) (first : ℕ) (cells 
   pub room : Cells cells
   pub numbers : same c dash ≡ false
   pub ends : end ≡ cut_at 44 c
-  pub is : read_whole (take end c) ≡ some (whole minus first)
+  pub is : read_whole (take end c) ≡ Some (whole minus first)
 
 abbrev pub numbers_of : ℕ → Bool → Numbers
 numbers_of count minus = record { count = count; minus = minus }
 
 -- the cells hold the column's numbers, or no shape has them
-abbrev pub Spells : List ℕ → Maybe Numbers → List ℕ → Type 0
-Spells c (Some are) cells = (are.count ≤ most_numbers) × (read_operands c ≡ some (sign_first are.minus (take are.count cells)))
-Spells c None cells = (s : Shape) → and_then (read_operands c) (operand_for s) ≡ none
+abbrev pub Spells : List ℕ → Option Numbers → List ℕ → Type 0
+Spells c (Some are) cells = (are.count ≤ most_numbers) × (read_operands c ≡ Some (sign_first are.minus (take are.count cells)))
+Spells c None cells = (s : Shape) → and_then (read_operands c) (operand_for s) ≡ None
 
 -- operands
 
@@ -133,21 +132,21 @@ abbrev pub spoken_with : Operand → ℕ → Spoken
 spoken_with o names = record { operand = o; names = names }
 
 -- what is said by so many numbers, the last of which are the names
-unfoldable pub spoken_of : ℕ → Option Said → Maybe Spoken
-spoken_of count none = None
-spoken_of count (some x) = Some (spoken_with x.operand (count - length x.names))
+unfoldable pub spoken_of : ℕ → Option Said → Option Spoken
+spoken_of count None = None
+spoken_of count (Some x) = Some (spoken_with x.operand (count - length x.names))
 
 -- what cells say by a shape
-abbrev pub spoken_by : Shape → Bool → List ℕ → Maybe Spoken
+abbrev pub spoken_by : Shape → Bool → List ℕ → Option Spoken
 spoken_by s minus cells = spoken_of (length cells) (operand_for s (sign_first minus cells))
 
 -- an operand whose numbers fit, with the names behind them that it counts
-abbrev pub told_of : Operand → (places names : ℕ) → (fits : Bool) → (count : ℕ) → Maybe Spoken
+abbrev pub told_of : Operand → (places names : ℕ) → (fits : Bool) → (count : ℕ) → Option Spoken
 told_of o places names fits count =
     cond fits (cond (leb places count) (cond (eqb (count - places) names) (Some (spoken_with o places)) None) None) None
 
 -- what n numbers say by a shape, the first three as they stand and the first with its sign
-abbrev pub told_by : Shape → (a b d : Number) → (tiny short : ℤ) → (n : ℕ) → Maybe Spoken
+abbrev pub told_by : Shape → (a b d : Number) → (tiny short : ℤ) → (n : ℕ) → Option Spoken
 told_by S.None a b d tiny short n = told_of O.None 0 0 true n
 told_by S.U8 a b d tiny short n = told_of (O.U8 a.byte) 1 0 a.small n
 told_by S.I8 a b d tiny short n = told_of (O.I8 tiny) 1 0 (ltb a.word 128) n

@@ -1,6 +1,6 @@
 -- What the functions that judge and store a line promise each other.
 -- Assumes nothing.
-use Rattle.std.specs.Prelude.{Option as Maybe}
+use Rattle.std.specs.Prelude.{Option}
 use Rattle.readback.specs.declared.placing.Aim.TheVariants as A
 use Rattle.words.specs.declared.Signed.TheVariants as W
 use Rattle.readback.specs.declared.placing.Aim.{Aim}
@@ -12,7 +12,6 @@ use Rattle.words.specs.declared.NumberError.TheVariants.{Not}
 use Rattle.words.specs.declared.NumberError.TheVariants.{Large}
 use Rattle.words.specs.declared.NumberError.{NumberError}
 use Rattle.std.specs.Prelude.{◌≡◌, Bool, true, false, cond, List, ℕ, suc, ◌-◌, ◌≤◌, leb, eqb, ℤ, pos, negsuc, length, take, drop, Ok, Err, Some, None, Result}
-use Rattle.std.proofs.Math.Option.{Option, none, some}
 use Rattle.op.specs.Opcodes.{known}
 use Rattle.op.specs.Shapes.{shape_of}
 use Rattle.op.specs.declared.Operand.{Operand}
@@ -38,10 +37,10 @@ use Rattle.readback.specs.Reading.{lines_from}
 -- offsets and targets
 
 -- the displacement of a jump
-abbrev pub Aims : Operand → Maybe Aim → Type 0
+abbrev pub Aims : Operand → Option Aim → Type 0
 Aims o (Some (A.On n)) = o ≡ O.Offset (pos n)
 Aims o (Some (A.Back n)) = o ≡ O.Offset (negsuc n)
-Aims o None = (at : ℕ) → target_of at o ≡ none
+Aims o None = (at : ℕ) → target_of at o ≡ None
 
 -- a whole number by its sign and its distance from zero
 abbrev pub goal_of : ℤ → Goal
@@ -68,12 +67,12 @@ offset_of at t = offset_by at (natural t) (value t)
 
 -- a jump's target column, and any, where a target results or none
 unfoldable pub reached_by : Option ℤ → ℤ → Met
-reached_by none z = M.Not
-reached_by (some y) z = met_if (same_whole y z)
+reached_by None z = M.Not
+reached_by (Some y) z = met_if (same_whole y z)
 
 unfoldable pub reached_of : Option (Option ℤ) → Option ℤ → Met
-reached_of none want = M.Not
-reached_of (some told) want = cond (alike told want) (met_if (same_target told want)) M.Not
+reached_of None want = M.Not
+reached_of (Some told) want = cond (alike told want) (met_if (same_target told want)) M.Not
 
 -- 24 where a column can't stand there, then 25 where one says another number
 abbrev pub matched_of : (target : Met) (off : Bool) → Result Unit Refusal
@@ -90,18 +89,18 @@ verdict_of M.Not target = Err NotALine
 
 -- what an opcode's operand column says
 unfoldable pub said_in : ℕ → Option (List ℤ) → Option Said
-said_in k zs = cond (known k) (and_then zs (said_by (shape_of k))) none
+said_in k zs = cond (known k) (and_then zs (said_by (shape_of k))) None
 
 -- the instruction of a name and an operand column, its keyword names in the cells
 pub record Instructs (name column : List ℕ) (k : ℕ) (o : Operand) (from count : ℕ) (cells : List ℕ) : Type 0 where
   pub opcode : k ≡ opcode_of name
   pub ordered : from ≤ count
   pub few : count ≤ most_numbers
-  pub says : said_in (opcode_of name) (read_operands column) ≡ some (said o (take (count - from) (drop from cells)))
+  pub says : said_in (opcode_of name) (read_operands column) ≡ Some (said o (take (count - from) (drop from cells)))
 
-abbrev pub Tells : (name column : List ℕ) → Maybe Told → List ℕ → Type 0
+abbrev pub Tells : (name column : List ℕ) → Option Told → List ℕ → Type 0
 Tells name column (Some told) cells = Instructs name column told.opcode told.operand told.names told.count cells
-Tells name column None cells = said_in (opcode_of name) (read_operands column) ≡ none
+Tells name column None cells = said_in (opcode_of name) (read_operands column) ≡ None
 
 -- bytes where there is room for them, or 18
 unfoldable pub stored_as : (bytes : List ℕ) (room : ℕ) → Judged

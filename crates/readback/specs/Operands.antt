@@ -1,8 +1,7 @@
 -- What the whole numbers of a line's operand column say, by the opcode's shape: "the operands of its shape, each in the
 -- range of its field; for keyword calls the count is that of the names behind it" (R68).
 -- Assumes nothing.
-use Rattle.std.specs.Prelude.{List, [], ◌∷◌, ℕ, ltb, eqb, ℤ, pos, negsuc, length, drop}
-use Rattle.std.proofs.Math.Option.{Option, none, some}
+use Rattle.std.specs.Prelude.{List, [], ◌∷◌, ℕ, ltb, eqb, ℤ, pos, negsuc, length, drop, None, Option, Some}
 use Rattle.std.specs.Int.Signed.{mag}
 use Rattle.op.specs.declared.Operand.{Operand}
 use Rattle.op.specs.declared.Operand.TheVariants as O
@@ -20,18 +19,18 @@ said o names = record { operand = o; names = names }
 
 -- what is made of something, where it is there
 unfoldable pub and_then : {A B : Type 0} → Option A → (A → Option B) → Option B
-and_then none f = none
-and_then (some a) f = f a
+and_then None f = None
+and_then (Some a) f = f a
 
 -- the first number from a place on
 abbrev pub first : List ℤ → Option ℤ
-first [] = none
-first (z ∷ zs) = some z
+first [] = None
+first (z ∷ zs) = Some z
 
 -- a number in the range of an unsigned field of so many values
 abbrev pub plain_in : ℕ → ℤ → Option ℕ
 plain_in values (pos n) = only_if (ltb n values) n
-plain_in values (negsuc n) = none
+plain_in values (negsuc n) = None
 
 -- a number in the range of a signed field: so many values below zero, and as many from zero on
 abbrev pub signed_in : ℕ → ℤ → Option ℤ
@@ -56,8 +55,8 @@ ends n zs o = only_if (eqb (length zs) n) (said o [])
 
 -- keyword names: each a word
 unfoldable pub words : List ℤ → Option (List ℕ)
-words [] = some []
-words (z ∷ zs) = and_then (plain_in 65536 z) (λ w. and_then (words zs) (λ ws. some (w ∷ ws)))
+words [] = Some []
+words (z ∷ zs) = and_then (plain_in 65536 z) (λ w. and_then (words zs) (λ ws. Some (w ∷ ws)))
 
 -- behind the first i numbers stand the names, n of them
 unfoldable pub named : (i n : ℕ) → List ℤ → Operand → Option Said

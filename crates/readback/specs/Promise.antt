@@ -2,8 +2,7 @@
 -- Assumes nothing.
 use Rattle.op.specs.declared.Refusal.{Refusal}
 use Rattle.readback.specs.declared.BadLine.{BadLine}
-use Rattle.std.specs.Prelude.{◌≡◌, List, [], ℕ, ◌<◌, ◌≤◌, length, get_or, Ok, Err, Result}
-use Rattle.std.proofs.Math.Option.{none}
+use Rattle.std.specs.Prelude.{◌≡◌, List, [], ℕ, ◌<◌, ◌≤◌, length, get_or, Ok, Err, Result, None}
 use Rattle.std.proofs.lemmas.List.Edits.{sets}
 use Rattle.op.specs.Opcodes.{last_opcode}
 use Rattle.code.specs.Reading.{instructions_in}
@@ -36,11 +35,11 @@ Bytes code = (i : ℕ) → get_or code i 0 < 256
 pub record Listed (cells : ℕ) (text code : List ℕ) : Type 0 where
   pub text_is : text ≡ listing_of code
   pub fits : length code ≤ cells
-  pub whole : (instructions_in last_opcode code).fault ≡ none
+  pub whole : (instructions_in last_opcode code).fault ≡ None
 
 -- "reading its listing gives the same bytes", and a text that is read is the listing of what it gave (R72)
 pub record ReadsBack : Type 0 where
   pub back : (cells : ℕ) (code : List ℕ) → Bytes code → length code ≤ most → length code ≤ cells
-      → (instructions_in last_opcode code).fault ≡ none
+      → (instructions_in last_opcode code).fault ≡ None
       → reading cells (listing_of code) ≡ Read code
   pub only : (cells : ℕ) (text code : List ℕ) → reading cells text ≡ Read code → Listed cells text code

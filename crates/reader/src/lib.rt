@@ -12,18 +12,16 @@ use code::{Step, decoder};
 fn after(code: &[u8], at: usize, step: Step) -> usize
     ensures { result ≡ after_step (length code.now) at step }
 {
-    let end = code.len();
-    match step {
-        Ok(Some(Instr { opcode: _, operand: _, size })) => {
-            if at < end {
-                if size <= end - at {
-                    return at + size;
-                }
-            }
-            at
-        }
-        Ok(None) => at,
-        Err(_) => at,
+    let Ok(found) = step else {
+        return at;
+    };
+    let Some(instr) = found else {
+        return at;
+    };
+    if at < code.len() && instr.size <= code.len() - at {
+        at + instr.size
+    } else {
+        at
     }
 }
 

@@ -5,7 +5,7 @@ ghost use Rattle.std.specs.Prelude.{◌≡◌, List, [], ◌∷◌};
 ghost use Rattle.code.specs.Entries.{find_from};
 ghost use Rattle.code.specs.Entries.{contains as in_entry};
 
-use code::{ExceptionEntry};
+use code::ExceptionEntry;
 
 #[tactic(auto, unfolding(code::specs::Lookups::covers_of))]
 fn contains(e: ExceptionEntry, offset: u32) -> bool
@@ -15,7 +15,10 @@ fn contains(e: ExceptionEntry, offset: u32) -> bool
 }
 
 // The first entry, in insertion order, that contains the offset, with its number.
-pub fn find_exception_handler(entries: &[ExceptionEntry], offset: u32) -> Option<(usize, ExceptionEntry)>
+pub fn find_exception_handler(
+    entries: &[ExceptionEntry],
+    offset: u32,
+) -> Option<(usize, ExceptionEntry)>
     ensures { result ≡ find_from entries.now offset 0 }
 {
     for (i, e) in entries.iter().enumerate() {
@@ -27,7 +30,11 @@ pub fn find_exception_handler(entries: &[ExceptionEntry], offset: u32) -> Option
 }
 
 // The same of two entries, for callers that hold no slice of records.
-pub fn find_in_two(a: ExceptionEntry, b: ExceptionEntry, offset: u32) -> Option<(usize, ExceptionEntry)>
+pub fn find_in_two(
+    a: ExceptionEntry,
+    b: ExceptionEntry,
+    offset: u32,
+) -> Option<(usize, ExceptionEntry)>
     ensures { result ≡ find_from (a ∷ b ∷ []) offset 0 }
 {
     let entries = [a, b];

@@ -1,11 +1,10 @@
 -- Laws of strict mode: the first cell that holds too little is the lowest instruction with too little; how a check in a
 -- mode keeps its promise, and what its answer says of the old mode.
 -- Assumes nothing.
-use Rattle.std.specs.Prelude.{Result, Ok, Err}
+use Rattle.std.specs.Prelude.{Result, Ok, Err, Some}
 use mathlib.Core.Path.{◌≡◌, refl, sym, ap, subst, ◌∙◌}
 use mathlib.Core.List.{List, ◌++◌}
 use mathlib.Core.Logic.{⊎_elim, inl, inr}
-use mathlib.Core.Option.{some}
 use Prim.Native.Nat.{ℕ, suc, ◌<◌}
 use native.Mathlib.Decide.{dec_lt}
 use native.Mathlib.Omega.{arith}
@@ -239,7 +238,7 @@ check_one Strict last s st d d₁ d₂ w w₁ w₂ r₁ r₂ P Q =
     let new = stricter_one last s d P.left P.old r₁ r₂ P.stricter B in
     (new.0, new.1, old.2)
 
-some_one : {x y : ℕ} → some x ≡ some y → x ≡ y
+some_one : {x y : ℕ} → Some x ≡ Some y → x ≡ y
 some_one {x} {y} e = cc
 
 named_one : {o p : ℕ} → ◌≡◌ {A = Answer} (Err (TooFewValues o)) (Err (TooFewValues p)) → o ≡ p

@@ -2,8 +2,7 @@
 -- the last opcode of the table, s the code, st the starts, d the depth slice before and d' after, w the work slice before
 -- and w' after, r the answer.
 -- Assumes nothing.
-use Rattle.std.specs.Prelude.{◌≡◌, List, ◌⊎◌, ℕ, suc, ◌≤◌, ◌<◌, length, get_or, replicate, Ok, Err, Result}
-use Rattle.std.proofs.Math.Option.{Option, some}
+use Rattle.std.specs.Prelude.{◌≡◌, List, ◌⊎◌, ℕ, suc, ◌≤◌, ◌<◌, length, get_or, replicate, Ok, Err, Result, Option, Some}
 use Rattle.op.specs.Needs.{need_of}
 use Rattle.op.specs.declared.Refusal.{Refusal}
 use Rattle.op.specs.declared.Refusal.TheVariants.{NoDepths, TooFewValues}
@@ -25,7 +24,7 @@ pub record Short (last : ℕ) (s : List ℕ) (a : ℕ → Option ℕ) (o : ℕ) 
   pub flow : Flow
   pub stands : Stands last s o flow
   pub depth : ℕ
-  pub has : a o ≡ some depth
+  pub has : a o ≡ Some depth
   pub less : depth < need_of (get_or s o 0)
 
 -- "the lowest offset" of those with P
@@ -65,7 +64,7 @@ answer_of (Err (J.TooFew at depth need)) = Err (TooFewValues at)
 pub record TooFew (last : ℕ) (s st : List ℕ) (o depth need : ℕ) : Type 0 where
   pub assignment : ℕ → Option ℕ
   pub smallest : Smallest last s st assignment
-  pub has : assignment o ≡ some depth
+  pub has : assignment o ≡ Some depth
   pub needs : need ≡ need_of (get_or s o 0)
   pub less : depth < need
 

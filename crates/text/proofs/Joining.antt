@@ -3,11 +3,10 @@
 use Rattle.code.specs.Decode.{instr}
 use Rattle.code.specs.Decode.{Step}
 use Rattle.op.specs.Effects.{by}
-use Rattle.std.specs.Prelude.{Ok, Err, Some, None}
+use Rattle.std.specs.Prelude.{Ok, Err, Some, None, Option}
 use mathlib.Core.Path.{◌≡◌, refl, sym, ap, ◌∙◌, subst}
 use mathlib.Core.Bool.{Bool, true, false, cond}
 use mathlib.Core.List.{List, [], ◌∷◌, ◌++◌, append-nil, append_assoc}
-use mathlib.Core.Option.{Option, some, none}
 use Prim.Native.Nat.{ℕ, zero, suc, ◌+◌, ◌-◌, ◌≤◌, ◌<◌}
 use native.Mathlib.Omega.{arith}
 use lib.Dec.{leb, ltb}
@@ -220,8 +219,8 @@ plain_spots (spot ∷ spots) more =
     ∙ sym (append_assoc here (spot_lines spots) (text_of more))
 
 plain_stop : (code : List ℕ) (at : ℕ) (fault : Option Refusal) → text_of (stop_lines [] code at fault) ≡ stop_line at fault
-plain_stop code at none = ap text_of (end_none [] at (lt-leb (suc at) 0 (omega arith)))
-plain_stop code at (some r) = append-nil (fault_line at r)
+plain_stop code at None = ap text_of (end_none [] at (lt-leb (suc at) 0 (omega arith)))
+plain_stop code at (Some r) = append-nil (fault_line at r)
 
 plain_read : (code : List ℕ) (read : Read) → text_of (read_lines [] code read) ≡ lines_of read
 unfolding lines_of

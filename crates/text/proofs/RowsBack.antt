@@ -3,7 +3,7 @@
 use mathlib.Core.Path.{◌≡◌, refl, sym, ap, ◌∙◌}
 use mathlib.Core.Bool.{Bool, true, false}
 use mathlib.Core.List.{List, [], ◌∷◌, ◌++◌}
-use mathlib.Core.Option.{Option, none, some}
+use Rattle.std.specs.Prelude.{None, Option, Some}
 use Prim.Native.Nat.{ℕ, suc, ◌<◌}
 use native.Mathlib.Omega.{arith}
 use lib.Dec.{T, eqb, leb→le, lit<}
@@ -32,20 +32,20 @@ first_digit c t n =
     let low = digit_low c (and_left (digit c) (all digit t) (natural_digits (c ∷ t) n)) in
     ne_eqb c 45 (λ e. omega arith)
 
-positive_is : (t : List ℕ) → T (natural t) → read_whole t ≡ some (pos (value t))
+positive_is : (t : List ℕ) → T (natural t) → read_whole t ≡ Some (pos (value t))
 positive_is [] n = absurd n
 positive_is (c ∷ t) n = rw (first_digit c t n, T_true (natural (c ∷ t)) n)
 
 -- a whole number
-pub whole_back : (z : ℤ) → read_whole (whole_text z) ≡ some z
-whole_back (pos n) = positive_is (decimal n) (natural_decimal n) ∙ ap (λ (m : ℕ). some (pos m)) (value_decimal n)
+pub whole_back : (z : ℤ) → read_whole (whole_text z) ≡ Some z
+whole_back (pos n) = positive_is (decimal n) (natural_decimal n) ∙ ap (λ (m : ℕ). Some (pos m)) (value_decimal n)
 whole_back (negsuc n) = rw (
   T_true (natural (decimal (suc n))) (natural_decimal (suc n)),
   value_decimal (suc n),
   ne_eqb (suc n) 0 (λ e. omega arith),
-) (ap (λ (m : ℕ). some (negsuc m)) (omega arith))
+) (ap (λ (m : ℕ). Some (negsuc m)) (omega arith))
 
-all_back : (zs : List ℤ) → read_all (whole_texts zs) ≡ some zs
+all_back : (zs : List ℤ) → read_all (whole_texts zs) ≡ Some zs
 all_back [] = refl
 all_back (z ∷ zs) = rw (whole_back z, all_back zs)
 
@@ -88,8 +88,8 @@ free_operands s (z ∷ zs) h = free_join s 44 (whole_text z ∷ whole_texts zs) 
     (free_whole s z (omega arith), free_wholes s zs (omega arith))
 
 free_target : (s : ℕ) (z : Option ℤ) → s < 45 → Free s (target_column z)
-free_target s none h = and_both (other s 45) true (is_other s 45 (λ e. omega arith)) tt
-free_target s (some z) h = free_whole s z h
+free_target s None h = and_both (other s 45) true (is_other s 45 (λ e. omega arith)) tt
+free_target s (Some z) h = free_whole s z h
 
 -- no whole number, and no row of them, is written `-`
 not_same : (t : List ℕ) → (t ≡ dash → ⊥) → same t dash ≡ false
@@ -99,14 +99,14 @@ not_same t n = go (same t dash) refl
     go true e = absurd (n (yes_same t dash e))
     go false e = e
 
-dash_none : read_all (split 44 dash) ≡ none
+dash_none : read_all (split 44 dash) ≡ None
 unfolding split
 dash_none = refl
 
-some-none {ℓ} : {A : Type ℓ} (a : A) → none ≡ some a → ⊥
+some-none {ℓ} : {A : Type ℓ} (a : A) → None ≡ Some a → ⊥
 some-none a e = clash cc
 
-pub operands_back : (zs : List ℤ) → read_operands (operand_column zs) ≡ some zs
+pub operands_back : (zs : List ℤ) → read_operands (operand_column zs) ≡ Some zs
 operands_back [] = refl
 operands_back (z ∷ zs) =
     let s = split_join 44 (whole_text z) (whole_texts zs) (free_whole 44 z (lit< tt), free_wholes 44 zs (lit< tt)) in
@@ -115,14 +115,14 @@ operands_back (z ∷ zs) =
     (λ e. some-none (z ∷ zs) (sym (ap (λ (t : List ℕ). read_all (split 44 t)) e ∙ dash_none) ∙ a)) in
     rw n a
 
-pub target_back : (z : Option ℤ) → read_target (target_column z) ≡ some z
-target_back none = refl
-target_back (some z) =
+pub target_back : (z : Option ℤ) → read_target (target_column z) ≡ Some z
+target_back None = refl
+target_back (Some z) =
     let n = not_same (whole_text z) (λ e. some-none z (sym (ap read_whole e) ∙ whole_back z)) in
     rw (n, whole_back z)
 
 -- a row is read as it was written
-pub row_back : (r : Row) → r.opcode < length table → read_row (row_text r) ≡ some r
+pub row_back : (r : Row) → r.opcode < length table → read_row (row_text r) ≡ Some r
 unfolding read_row row_text
 row_back r h =
     ap read_fields

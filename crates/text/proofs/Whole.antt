@@ -3,11 +3,10 @@
 use Rattle.code.specs.Decode.{instr}
 use Rattle.code.specs.Decode.{Step}
 use Rattle.op.specs.Effects.{by}
-use Rattle.std.specs.Prelude.{Ok, Err, Some, None}
+use Rattle.std.specs.Prelude.{Ok, Err, Some, None, Option}
 use mathlib.Core.Path.{◌≡◌, refl, sym, ap, ◌∙◌}
 use mathlib.Core.Bool.{Bool, true, false, cond}
 use mathlib.Core.List.{List, [], ◌∷◌, ◌++◌, append-nil, append_assoc}
-use mathlib.Core.Option.{Option, some, none}
 use Prim.Native.Nat.{ℕ, ◌+◌, ◌≤◌, ◌<◌}
 use native.Mathlib.Omega.{arith}
 use lib.Dec.{leb}
@@ -89,12 +88,12 @@ module _ (code : List ℕ) (at : ℕ) (small : length code ≤ most) where
   pub rest_fault : (r : Refusal) → decode last_opcode at (drop at code) ≡ Err r
       → rest_of code at ≡ line_of name_of at (drop at code)
   rest_fault r e =
-      rest_is code at small ∙ ap lines_of (reads_fault last_opcode code at r e) ∙ lines_stop at (some r)
+      rest_is code at small ∙ ap lines_of (reads_fault last_opcode code at r e) ∙ lines_stop at (Some r)
       ∙ sym (line_is at (drop at code) (Err r) e)
 
   -- at the end there is none
   pub rest_end : decode last_opcode at (drop at code) ≡ (Ok None) → rest_of code at ≡ []
-  rest_end e = rest_is code at small ∙ ap lines_of (reads_end last_opcode code at e) ∙ lines_stop at none
+  rest_end e = rest_is code at small ∙ ap lines_of (reads_end last_opcode code at e) ∙ lines_stop at None
 
 -- and in code that is too long
 pub rest_large : (code : List ℕ) (at : ℕ) → most < length code → rest_of code at ≡ []

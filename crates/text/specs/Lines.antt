@@ -3,8 +3,7 @@
 -- and 1.
 -- Assumes nothing.
 use Rattle.text.specs.Fitting.{Listed}
-use Rattle.std.specs.Prelude.{◌≡◌, cond, List, [], ◌∷◌, ◌++◌, ℕ, zero, suc, ◌+◌, leb, ltb, eqb, length, take, drop, get_or, Err}
-use Rattle.std.proofs.Math.Option.{Option, some, none}
+use Rattle.std.specs.Prelude.{◌≡◌, cond, List, [], ◌∷◌, ◌++◌, ℕ, zero, suc, ◌+◌, leb, ltb, eqb, length, take, drop, get_or, Err, None, Option, Some}
 use Rattle.op.specs.Opcodes.{last_opcode}
 use Rattle.op.specs.Names.{ascii, name_of}
 use Rattle.op.specs.declared.Refusal.{Refusal}
@@ -46,8 +45,8 @@ spots_then depths (spot ∷ spots) more = spot_line_in depths spot ∷ spots_the
 
 -- where reading stops: the end's lines, or the fault's, which has no column and is the last
 abbrev pub stop_lines : (depths code : List ℕ) (at : ℕ) (fault : Option Refusal) → List Line
-stop_lines depths code at none = end_lines depths at
-stop_lines depths code at (some r) = line_to (fault_line at r) (suc (suc (length code))) ∷ []
+stop_lines depths code at None = end_lines depths at
+stop_lines depths code at (Some r) = line_to (fault_line at r) (suc (suc (length code))) ∷ []
 
 -- the lines of what was read of a code
 abbrev pub read_lines : (depths code : List ℕ) (read : Read) → List Line

@@ -1,8 +1,7 @@
 -- A whole listing: R55, R56; refusals 1, 10 and 22 (R27).
 -- Assumes nothing.
 use Rattle.code.specs.Decode.{Step}
-use Rattle.std.specs.Prelude.{cond, List, [], ◌∷◌, ◌++◌, ℕ, leb, length, drop, Ok, Err, Some, None}
-use Rattle.std.proofs.Math.Option.{Option, some, none}
+use Rattle.std.specs.Prelude.{cond, List, [], ◌∷◌, ◌++◌, ℕ, leb, length, drop, Ok, Err, Some, None, Option}
 use Rattle.op.specs.Opcodes.{last_opcode}
 use Rattle.op.specs.Names.{ascii, name_of}
 use Rattle.op.specs.Refusals.{number_of}
@@ -53,8 +52,8 @@ spot_lines (spot ∷ spots) = spot_line name_of spot ++ spot_lines spots
 
 -- the line of a fault, where there is one
 abbrev pub stop_line : (at : ℕ) (fault : Option Refusal) → List ℕ
-stop_line at none = []
-stop_line at (some r) = fault_line at r
+stop_line at None = []
+stop_line at (Some r) = fault_line at r
 
 -- the lines of what was read
 unfoldable pub lines_of : Read → List ℕ

@@ -1,7 +1,6 @@
 -- A line of a listing read back: the row that a text says, where it is one. The rules only write them (R55).
 -- Assumes nothing.
-use Rattle.std.specs.Prelude.{Bool, true, false, cond, not, ◌&&◌, List, [], ◌∷◌, ℕ, suc, ◌-◌, eqb, ℤ, pos, negsuc}
-use Rattle.std.proofs.Math.Option.{Option, none, some}
+use Rattle.std.specs.Prelude.{Bool, true, false, cond, not, ◌&&◌, List, [], ◌∷◌, ℕ, suc, ◌-◌, eqb, ℤ, pos, negsuc, None, Option, Some}
 use Rattle.op.specs.Names.{name_in}
 use Rattle.op.specs.Opcodes.{table, known}
 use Rattle.op.specs.Opcodes.{Row as Opcode}
@@ -27,8 +26,8 @@ opcode_of t = place table t
 
 -- something, where a test passes
 abbrev pub only_if : {A : Type 0} → Bool → A → Option A
-only_if true a = some a
-only_if false a = none
+only_if true a = Some a
+only_if false a = None
 
 -- a whole number: digits, or a minus sign and the digits of a number above zero
 abbrev pub positive : List ℕ → Option ℤ
@@ -38,46 +37,46 @@ abbrev pub negative : List ℕ → Option ℤ
 negative t = only_if (natural t && not (eqb (value t) 0)) (negsuc (value t - 1))
 
 abbrev pub read_whole : List ℕ → Option ℤ
-read_whole [] = none
+read_whole [] = None
 read_whole (c ∷ t) = cond (eqb c 45) (negative t) (positive (c ∷ t))
 
 -- operands, each a whole number
 abbrev pub both : Option ℤ → Option (List ℤ) → Option (List ℤ)
-both none zs = none
-both (some z) none = none
-both (some z) (some zs) = some (z ∷ zs)
+both None zs = None
+both (Some z) None = None
+both (Some z) (Some zs) = Some (z ∷ zs)
 
 abbrev pub read_all : List (List ℕ) → Option (List ℤ)
-read_all [] = some []
+read_all [] = Some []
 read_all (t ∷ ts) = both (read_whole t) (read_all ts)
 
 abbrev pub read_operands : List ℕ → Option (List ℤ)
-read_operands t = cond (same t dash) (some []) (read_all (split 44 t))
+read_operands t = cond (same t dash) (Some []) (read_all (split 44 t))
 
 -- a target, or `-`
 abbrev pub present : Option ℤ → Option (Option ℤ)
-present none = none
-present (some z) = some (some z)
+present None = None
+present (Some z) = Some (Some z)
 
 abbrev pub read_target : List ℕ → Option (Option ℤ)
-read_target t = cond (same t dash) (some none) (present (read_whole t))
+read_target t = cond (same t dash) (Some None) (present (read_whole t))
 
 -- a row, where each field is right
 abbrev pub row : Bool → ℕ → Bool → ℕ → Option (List ℤ) → Option (Option ℤ) → Option Row
-row false n c o zs z = none
-row true n false o zs z = none
-row true n true o none z = none
-row true n true o (some zs) none = none
-row true n true o (some zs) (some z) = some (record { offset = n; opcode = o; operands = zs; target = z })
+row false n c o zs z = None
+row true n false o zs z = None
+row true n true o None z = None
+row true n true o (Some zs) None = None
+row true n true o (Some zs) (Some z) = Some (record { offset = n; opcode = o; operands = zs; target = z })
 
 abbrev pub read_fields : List (List ℕ) → Option Row
-read_fields [] = none
-read_fields (a ∷ []) = none
-read_fields (a ∷ b ∷ []) = none
-read_fields (a ∷ b ∷ c ∷ []) = none
+read_fields [] = None
+read_fields (a ∷ []) = None
+read_fields (a ∷ b ∷ []) = None
+read_fields (a ∷ b ∷ c ∷ []) = None
 read_fields (a ∷ b ∷ c ∷ d ∷ []) =
     row (natural a) (value a) (known (opcode_of b)) (opcode_of b) (read_operands c) (read_target d)
-read_fields (a ∷ b ∷ c ∷ d ∷ e ∷ ts) = none
+read_fields (a ∷ b ∷ c ∷ d ∷ e ∷ ts) = None
 
 -- the row that a text says, where it is one
 unfoldable pub read_row : List ℕ → Option Row

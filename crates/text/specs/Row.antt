@@ -1,7 +1,6 @@
 -- What a line of a listing says, and its text: R55.
 -- Assumes nothing.
-use Rattle.std.specs.Prelude.{List, [], ◌∷◌, ℕ, ◌+◌, ℤ, pos, ◌+ℤ◌}
-use Rattle.std.proofs.Math.Option.{Option, none, some}
+use Rattle.std.specs.Prelude.{List, [], ◌∷◌, ℕ, ◌+◌, ℤ, pos, ◌+ℤ◌, None, Option, Some}
 use Rattle.op.specs.Names.{name_of}
 use Rattle.op.specs.declared.Operand.{Operand}
 use Rattle.op.specs.declared.Operand.TheVariants as O
@@ -37,18 +36,18 @@ operands_of (O.U16U16U8 a b c) names = pos a ∷ pos b ∷ pos c ∷ []
 
 -- "its target less the offset of its opcode less 3": the target of a jump
 abbrev pub target_of : ℕ → Operand → Option ℤ
-target_of at O.None = none
-target_of at (O.U8 a) = none
-target_of at (O.I8 z) = none
-target_of at (O.U16 a) = none
-target_of at (O.Offset z) = some (pos (at + 3) +ℤ z)
-target_of at (O.U8U8 a b) = none
-target_of at (O.U16U8 a b) = none
-target_of at (O.U16U16 a b) = none
-target_of at (O.U16U8U8 a b c) = none
-target_of at (O.CallKw positional n) = none
-target_of at (O.CallAttrKw attribute positional n) = none
-target_of at (O.U16U16U8 a b c) = none
+target_of at O.None = None
+target_of at (O.U8 a) = None
+target_of at (O.I8 z) = None
+target_of at (O.U16 a) = None
+target_of at (O.Offset z) = Some (pos (at + 3) +ℤ z)
+target_of at (O.U8U8 a b) = None
+target_of at (O.U16U8 a b) = None
+target_of at (O.U16U16 a b) = None
+target_of at (O.U16U8U8 a b c) = None
+target_of at (O.CallKw positional n) = None
+target_of at (O.CallAttrKw attribute positional n) = None
+target_of at (O.U16U16U8 a b c) = None
 
 -- the row of the instruction at an offset, with its keyword names
 abbrev pub row_of : ℕ → ℕ → Operand → List ℕ → Row
@@ -70,8 +69,8 @@ operand_column (z ∷ zs) = join 44 (whole_text z ∷ whole_texts zs)
 
 -- "signed, `-` otherwise"
 abbrev pub target_column : Option ℤ → List ℕ
-target_column none = dash
-target_column (some z) = whole_text z
+target_column None = dash
+target_column (Some z) = whole_text z
 
 -- "parted by tabs", with a text for the opcode's name
 abbrev pub fields_text : List ℕ → Row → List ℕ

@@ -95,12 +95,14 @@ fn step_line(
     ensures { Steps front.now code.now at step out.old to result out.new }
 {
     match step {
-        Ok(Some(Instr { opcode, operand, size })) => {
-            let name = names::of_opcode(opcode, texts, starts);
-            let placed = lines::line(code, at, operand, front, name, out, to);
-            went(placed, at, to, at + size, true)
+        Ok(found) => {
+            let Some(instr) = found else {
+                return end_line(code, at, front, out, to);
+            };
+            let name = names::of_opcode(instr.opcode, texts, starts);
+            let placed = lines::line(code, at, instr.operand, front, name, out, to);
+            went(placed, at, to, at + instr.size, true)
         }
-        Ok(None) => end_line(code, at, front, out, to),
         Err(refusal) => {
             let placed = lines::fault(at, refusal, out, to);
             went(placed, at, to, code.len() + 1, false)

@@ -1,7 +1,6 @@
 -- What a text says as a natural number in 64 bits.
 -- Assumes nothing.
-use Rattle.std.specs.Prelude.{cond, List, ℕ, suc, leb, eqb, ℤ, pos, negsuc, Result, Ok, Err}
-use Rattle.std.proofs.Math.Option.{Option, none, some}
+use Rattle.std.specs.Prelude.{cond, List, ℕ, suc, leb, eqb, ℤ, pos, negsuc, Result, Ok, Err, None, Option, Some}
 use Rattle.text.specs.Number.{natural, value}
 use Rattle.words.specs.declared.NumberError.{NumberError}
 use Rattle.words.specs.declared.NumberError.TheVariants.{Large, Not}
@@ -28,6 +27,6 @@ minus_of (Err e) = Err e
 
 -- a whole number by its sign and its magnitude in 64 bits
 unfoldable pub whole_of : Option ℤ → Result Signed NumberError
-whole_of none = Err Not
-whole_of (some (pos n)) = plus_of (fitted n)
-whole_of (some (negsuc n)) = minus_of (fitted (suc n))
+whole_of None = Err Not
+whole_of (Some (pos n)) = plus_of (fitted n)
+whole_of (Some (negsuc n)) = minus_of (fitted (suc n))

@@ -1,10 +1,9 @@
 -- `readback::line::instruction` meets its contract: what the name and the column say is what their functions promise.
 -- Assumes nothing.
 use Rattle.std.proofs.lemmas.Grind.{common_steps}
-use Rattle.std.specs.Prelude.{None}
+use Rattle.std.specs.Prelude.{None, Some}
 use Rattle.readback.specs.declared.numbers.Numbers.{Numbers}
-use Rattle.std.specs.Prelude.{Option as Maybe}
-use mathlib.Core.Option.{some as present}
+use Rattle.std.specs.Prelude.{Option}
 use mathlib.Core.List.{List}
 use mathlib.Core.Path.{◌≡◌, sym, ap, ◌∙◌, subst}
 use Prim.Native.Nat.{◌≤◌, ℕ}
@@ -32,7 +31,7 @@ returns-in_err-numbers c =
     let is = ap shape_of (sym c.opcode-opcode.ensures) ∙ sym c.operand_shape-shaped.ensures
     ∙ c.in-Ok.is in
     let cells = c.read.new.cells in
-    let unread = subst (λ (r : Maybe Numbers). Spells a.column.now r cells) c.in_err-numbers.was
+    let unread = subst (λ (r : Option Numbers). Spells a.column.now r cells) c.in_err-numbers.was
     c.read.ensures in
     let gone : c.from_residual.result ≡ None = grind (arith, common_steps) in
     rw gone (
@@ -42,14 +41,14 @@ returns-in_err-numbers c =
 pub slice_bounds-of_shape-end : goal.slice_bounds-of_shape-end
 slice_bounds-of_shape-end c =
     let cells = c.read.new.cells in
-    let spelt = subst (λ (r : Maybe Numbers). Spells c.args.column.now r cells) c.in_ok-numbers.was
+    let spelt = subst (λ (r : Option Numbers). Spells c.args.column.now r cells) c.in_ok-numbers.was
     c.read.ensures in
     omega (arith, spelt.0, c.requires)
 
 pub slice_bounds-of_shape-end-2 : goal.slice_bounds-of_shape-end-2
 slice_bounds-of_shape-end-2 c =
     let cells = c.read.new.cells in
-    let spelt = subst (λ (r : Maybe Numbers). Spells c.args.column.now r cells) c.in_ok-numbers.was
+    let spelt = subst (λ (r : Option Numbers). Spells c.args.column.now r cells) c.in_ok-numbers.was
     c.read.ensures in
     sym (length-take-le c.in_ok-numbers.numbers.count cells (omega (arith, spelt.0, c.requires)))
 
@@ -62,7 +61,7 @@ returns-in_err-spoken c =
     let cells = c.read.new.cells in
     let is = ap shape_of (sym c.opcode-opcode.ensures) ∙ sym c.operand_shape-shaped.ensures
     ∙ c.in-Ok.is in
-    let spelt = subst (λ (r : Maybe Numbers). Spells a.column.now r cells) c.in_ok-numbers.was
+    let spelt = subst (λ (r : Option Numbers). Spells a.column.now r cells) c.in_ok-numbers.was
     c.read.ensures in
     let none = spoken_none s minus (take count cells)
     (sym c.in_err-spoken.was ∙ c.of_shape.ensures) in
@@ -81,7 +80,7 @@ returns c =
     let from = c.in_ok-spoken.spoken.names in
     let is = ap shape_of (sym c.opcode-opcode.ensures) ∙ sym c.operand_shape-shaped.ensures
     ∙ c.in-Ok.is in
-    let spelt = subst (λ (r : Maybe Numbers). Spells a.column.now r cells) c.in_ok-numbers.was
+    let spelt = subst (λ (r : Option Numbers). Spells a.column.now r cells) c.in_ok-numbers.was
     c.read.ensures in
     let spoken = spoken_some s minus (take count cells) operand from
     (sym c.in_ok-spoken.was ∙ c.of_shape.ensures) in
@@ -94,5 +93,5 @@ returns c =
       few = spelt.0;
       says =
           said_some (opcode_of a.name.now) (read_operands a.column.now) s is _ _ spelt.1 spoken.1
-          ∙ ap (λ (l : List ℕ). present (said operand l)) (names_part cells from count ordered);
+          ∙ ap (λ (l : List ℕ). Some (said operand l)) (names_part cells from count ordered);
     }

@@ -1,6 +1,6 @@
 -- `readback::line::read` meets its contract: the fields are what stands between the tabs.
 -- Assumes nothing.
-use mathlib.Core.Option.{Option}
+use Rattle.std.specs.Prelude.{Option}
 use mathlib.Core.Path.{sym, ap, subst}
 use native.Mathlib.Omega.{arith}
 use lib.Seq.{length-take-le}
