@@ -9,6 +9,7 @@ use code::writer;
 use op::{Operand, Refusal};
 
 // One instruction and its location's row, at the used ends; the rows then used.
+#[inline(always)]
 pub fn commit(
     core: Core,
     location: Option<Location>,
@@ -29,6 +30,7 @@ pub fn commit(
 }
 
 // The core behind an instruction of so many bytes, with so many location rows.
+#[inline(always)]
 pub fn grown(core: Core, rows: usize, size: usize, after: Option<u16>) -> Core
     requires { core.code + size ≤ code_limit }
     ensures { result ≡ core_with core rows size after }
@@ -43,6 +45,7 @@ pub fn grown(core: Core, rows: usize, size: usize, after: Option<u16>) -> Core
 
 // Emission on the core. The slice of names is made anew for `commit`: copied whole it keeps this function a call, with
 // the state in memory.
+#[inline(always)]
 fn emit_core(
     core: Core,
     location: Option<Location>,
@@ -103,6 +106,7 @@ pub fn emit_with_names(
 }
 
 // The same of an instruction that has no keyword names.
+#[inline(always)]
 pub fn emit_with_operand(
     b: Builder,
     opcode: u8,

@@ -9,6 +9,7 @@ use crate::Location;
 use code::{CodeRange, LOCATION_CELLS, store};
 
 // Whether a location that is set has room for its row.
+#[inline(always)]
 pub fn row_fits(location: Option<Location>, rows: usize, ll: usize) -> bool
     ensures { result ≡ row_fits location rows ll }
 {
@@ -19,6 +20,7 @@ pub fn row_fits(location: Option<Location>, rows: usize, ll: usize) -> bool
 }
 
 // A location's row at the front.
+#[inline(always)]
 fn write_row(out: &mut [u32], offset: u32, range: CodeRange, focus: Option<CodeRange>)
     requires { location_cells ≤ length out.old }
     ensures { out.new ≡ front (location_numbers (location_at offset range focus)) out.old }
@@ -30,6 +32,7 @@ fn write_row(out: &mut [u32], offset: u32, range: CodeRange, focus: Option<CodeR
 }
 
 // A location's row at the used end, where a location is set; the rows then used.
+#[inline(always)]
 pub fn write_location(
     location: Option<Location>,
     rows: usize,

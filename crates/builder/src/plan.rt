@@ -22,6 +22,7 @@ pub struct Plan {
 pub type Decision = Result<Option<Plan>, Refusal>;
 
 // Whether the counts are within the lent code and locations.
+#[inline(always)]
 pub fn sound(core: Core, cl: usize, ll: usize) -> bool
     ensures { result ≡ sound_of core cl ll }
 {
@@ -46,6 +47,7 @@ pub fn sound_with_marks(core: Core, cl: usize, ll: usize, ml: usize) -> bool
 
 // How every emitting call begins: 19, 1, 8, dead code. `sound` is what 19 asks of the call, `name` the name in the
 // operand, 0 without one.
+#[inline(always)]
 pub fn enter(sound: bool, opcode: u8, name: u32, depth: Option<u16>) -> Result<Option<u16>, Refusal>
     ensures { result ≡ enter_of sound opcode name depth }
 {
@@ -62,6 +64,7 @@ pub fn enter(sound: bool, opcode: u8, name: u32, depth: Option<u16>) -> Result<O
 }
 
 // The depth behind an opcode that falls through to `e`.
+#[inline(always)]
 fn behind_op(opcode: u8, e: u16) -> Option<u16>
     ensures { result ≡ behind opcode e }
 {
@@ -73,6 +76,7 @@ fn behind_op(opcode: u8, e: u16) -> Option<u16>
 }
 
 // The same plan, where a table has room for the row that goes with it.
+#[inline(always)]
 pub fn also_row(decision: Decision, free: bool, table: Table) -> Decision
     ensures { result ≡ also_row decision free table }
 {
@@ -86,6 +90,7 @@ pub fn also_row(decision: Decision, free: bool, table: Table) -> Decision
 }
 
 // The same plan, where a location that is set has room for its row.
+#[inline(always)]
 pub fn also_location(
     decision: Decision,
     location: Option<Location>,
@@ -102,6 +107,7 @@ pub fn also_location(
 }
 
 // Whether there is room for so many bytes.
+#[inline(always)]
 fn room(core: Core, size: usize, after: Option<u16>, word: u16, cl: usize) -> Decision
     requires { (core.code ≤ cl) × (core.code ≤ code_limit) }
     ensures { result ≡ room_of core.code size after word cl }
@@ -117,6 +123,7 @@ fn room(core: Core, size: usize, after: Option<u16>, word: u16, cl: usize) -> De
 }
 
 // What is decided of the bytes, in live code at depth `d`, with `n` keyword names.
+#[inline(always)]
 pub fn decide_bytes(
     core: Core,
     d: u16,
@@ -141,6 +148,7 @@ pub fn decide_bytes(
 }
 
 // What an emitting call is to do; `name` is the name in the operand, 0 without one.
+#[inline(always)]
 pub fn decide(
     core: Core,
     location: Option<Location>,

@@ -1,5 +1,8 @@
 -- A state that was written is the one that is read.
 -- Assumes nothing.
+use Rattle.code.specs.Locations.{focused, focus_start_of, focus_end_of}
+use Rattle.code.specs.declared.CodeRange.{CodeRange}
+use Rattle.calls.specs.Back.{FocusFits}
 use Rattle.builder.specs.declared.Location.{Location}
 use Rattle.std.specs.Prelude.{Some, None, Option}
 use mathlib.Core.Path.{◌≡◌, refl, ap}
@@ -28,16 +31,14 @@ read l =
     let p = place_of l in
     location_in p.set p.start p.end (focus_in p.focus p.from p.to)
 
+focus_back : (f : Option CodeRange) → FocusFits f → focus_in (focused f) (focus_start_of f) (focus_end_of f) ≡ Some f
+focus_back None h = refl
+focus_back (Some f) h = simp (le-leb f.start offset_max h.0, le-leb f.end offset_max h.1)
+
 location_back : (l : Option Location) → LocationFits l → read l ≡ Some l
 location_back None h = refl
-location_back (Some set) h = simp (le-leb set.range.start offset_max h.0, le-leb set.range.end offset_max h.1)
-location_back (Set r (Some f)) h =
-    simp (
-      le-leb r.start offset_max h.0.0,
-      le-leb r.end offset_max h.0.1,
-      le-leb f.start offset_max h.1.0,
-      le-leb f.end offset_max h.1.1,
-    )
+location_back (Some set) h =
+    rw (focus_back set.focus h.1, le-leb set.range.start offset_max h.0.0, le-leb set.range.end offset_max h.0.1) refl
 
 pub state_back : StateBack
 unfolding state_in

@@ -18,10 +18,13 @@ DepthFits (Some depth) = depth < dead_depth
 abbrev pub RangeFits : CodeRange → Type 0
 RangeFits range = (range.start ≤ offset_max) × (range.end ≤ offset_max)
 
+abbrev pub FocusFits : Option CodeRange → Type 0
+FocusFits None = Unit {0}
+FocusFits (Some focus) = RangeFits focus
+
 abbrev pub LocationFits : Option Location → Type 0
 LocationFits None = Unit {0}
-LocationFits (Some set) = RangeFits set.range
-LocationFits (Set range (Some focus)) = RangeFits range × RangeFits focus
+LocationFits (Some set) = RangeFits set.range × FocusFits set.focus
 
 abbrev pub StateBack : Type 0
 StateBack =

@@ -2,6 +2,7 @@
 -- 5 exceptions, 6 constants, 7 names, 8 starts; 9 whether a location is set, 10 its start, 11 its end; 12 whether it
 -- has a focus, 13 its start, 14 its end; 15 and 16 are neither read nor written. The header says the same in words.
 -- Assumes nothing.
+use Rattle.code.specs.Locations.{focused, focus_start_of, focus_end_of}
 use Rattle.builder.specs.declared.Location.{Location}
 use Rattle.code.specs.declared.CodeRange.{CodeRange}
 use Rattle.code.specs.declared.HandlerKind.{HandlerKind}
@@ -94,17 +95,9 @@ place_of (Some set) = record {
   set = 1;
   start = set.range.start;
   end = set.range.end;
-  focus = 0;
-  from = 0;
-  to = 0;
-}
-place_of (Set range (Some focus)) = record {
-  set = 1;
-  start = range.start;
-  end = range.end;
-  focus = 1;
-  from = focus.start;
-  to = focus.end;
+  focus = focused set.focus;
+  from = focus_start_of set.focus;
+  to = focus_end_of set.focus;
 }
 
 abbrev pub place_cells : Place → List ℕ

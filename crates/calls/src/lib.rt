@@ -11,7 +11,7 @@ ghost use Rattle.calls.specs.Exports.{emit_in, emit_jump_in, emit_jump_to_in, lo
 ghost use Rattle.calls.specs.Exports.{patch_jump_in, register_local_name_in, register_local_names_in, set_location_in};
 ghost use Rattle.std.specs.Prelude.{◌≡◌};
 
-use builder::{Builder};
+use builder::Builder;
 use code::CodeRange;
 use op::{Refusal, Table, refusals};
 
@@ -127,11 +127,7 @@ pub fn tfb_emit_jump(
         return refusals::answer(Refusal::Unsound);
     };
     match before.emit_jump(opcode, code, locations, marks) {
-        Ok((after, label)) => writing::accept_core(
-            after,
-            writing::label_number(label),
-            state,
-        ),
+        Ok((after, label)) => writing::accept_core(after, writing::label_number(label), state),
         Err(refusal) => refusals::answer(refusal),
     }
 }
@@ -184,11 +180,7 @@ pub fn tfb_current_jump_target(state: &mut [u64], marks: &mut [u32]) -> u64
         return refusals::answer(Refusal::Unsound);
     };
     match before.current_jump_target(marks) {
-        Ok((after, target)) => writing::accept_core(
-            after,
-            writing::target_number(target),
-            state,
-        ),
+        Ok((after, target)) => writing::accept_core(after, writing::target_number(target), state),
         Err(refusal) => refusals::answer(refusal),
     }
 }

@@ -39,14 +39,22 @@ pub fn focus_in(flag: u64, start: u64, end: u64) -> Option<Option<CodeRange>>
     }
 }
 
-fn location_in(set: u64, start: u64, end: u64, focus: Option<Option<CodeRange>>) -> Option<Option<Location>>
+fn location_in(
+    set: u64,
+    start: u64,
+    end: u64,
+    focus: Option<Option<CodeRange>>,
+) -> Option<Option<Location>>
     ensures { result ≡ location_in set start end focus }
 {
     match set {
         0 => Some(None),
         1 => {
             let range = range_in(start, end)?;
-            Some(Some(Location { range, focus: focus? }))
+            Some(Some(Location {
+                range,
+                focus: focus?,
+            }))
         }
         _ => None,
     }
@@ -102,9 +110,5 @@ pub fn target_in(number: u64) -> JumpTarget
 pub fn kind_in(number: u8) -> Option<HandlerKind>
     ensures { result ≡ kind_in number }
 {
-    match number {
-        0 => Some(HandlerKind::Consuming),
-        1 => Some(HandlerKind::Cleanup),
-        _ => None,
-    }
+    HandlerKind::try_from(u32::from(number)).ok()
 }

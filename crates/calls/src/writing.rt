@@ -7,7 +7,7 @@ ghost use Rattle.calls.specs.State.{place_of, state_cells};
 
 use crate::{DEAD_DEPTH, DEAD_ROW, Place};
 use builder::{Builder, JumpLabel, JumpTarget, Location};
-use op::refusals;
+use op::{Refusal, refusals};
 
 // The numbers of three types. They are crate `builder`'s, as `From` is std's, so a crate above both has functions for it; one
 // for the two rows would need a trait, which is no plainer.
@@ -44,20 +44,23 @@ impl From<Option<Location>> for Place {
     fn from(location: Option<Location>) -> Place {
         match location {
             None => Place::default(),
-            Some(Location { range, focus: None }) => Place {
-                set: 1,
-                start: range.start as u64,
-                end: range.end as u64,
-                ..Place::default()
-            },
-            Some(Location { range, focus: Some(focus) }) => Place {
-                set: 1,
-                start: range.start as u64,
-                end: range.end as u64,
-                focus: 1,
-                from: focus.start as u64,
-                to: focus.end as u64,
-            },
+            Some(Location { range, focus }) => {
+                let place = Place {
+                    set: 1,
+                    start: range.start as u64,
+                    end: range.end as u64,
+                    ..Place::default()
+                };
+                match focus {
+                    None => place,
+                    Some(part) => Place {
+                        focus: 1,
+                        from: part.start as u64,
+                        to: part.end as u64,
+                        ..place
+                    },
+                }
+            }
         }
     }
 }

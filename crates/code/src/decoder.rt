@@ -28,6 +28,7 @@ pub fn step_at(code: &[u8], at: usize) -> Step
 }
 
 // The count of an operand's keyword names.
+#[inline(always)]
 pub fn names_of(operand: Operand) -> usize
     ensures { (result ≡ names_in operand) × (result < 256) }
 {

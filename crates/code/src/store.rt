@@ -3,6 +3,7 @@ ghost use Rattle.std.specs.Prelude.{◌≡◌, ◌≤◌, length};
 ghost use Rattle.code.specs.Bytes.{front, word_bytes};
 
 // Bytes of code, or cells of a table.
+#[inline(always)]
 pub fn put<T: Copy>(out: &mut [T], cells: &[T])
     requires { length cells.now ≤ length out.old }
     ensures { out.new ≡ front cells.now out.old }
@@ -11,6 +12,7 @@ pub fn put<T: Copy>(out: &mut [T], cells: &[T])
 }
 
 // A word's two bytes, the low one first.
+#[inline(always)]
 pub fn halves(w: u16) -> [u8; 2]
     ensures { result ≡ word_bytes w }
 {

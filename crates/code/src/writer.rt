@@ -41,6 +41,7 @@ fn write_attr_call(out: &mut [u8], opcode: u8, attribute: u16, positional: u8, n
 }
 
 // The bytes of an instruction.
+#[inline(always)]
 fn fill(out: &mut [u8], opcode: u8, operand: Operand, names: &[u16])
     requires { Writable operand names.now out.old }
     ensures { out.new ≡ front (encode opcode operand names.now) out.old }
@@ -89,6 +90,7 @@ fn fill(out: &mut [u8], opcode: u8, operand: Operand, names: &[u16])
 }
 
 // The answer: 1, 7, 2, then 18 where the room is less than the size.
+#[inline(always)]
 fn decide(opcode: u8, operand: Operand, names: usize, room: usize) -> Result<usize, Refusal>
     ensures { result ≡ written_of opcode operand names room }
 {
@@ -110,6 +112,7 @@ fn decide(opcode: u8, operand: Operand, names: usize, room: usize) -> Result<usi
 }
 
 // Writes an instruction at the front of `out`, and answers its size. A refusal changes nothing.
+#[inline(always)]
 pub fn write(out: &mut [u8], opcode: u8, operand: Operand, names: &[u16]) -> Result<usize, Refusal>
     ensures { Writes opcode operand names.now out.old result out.new }
 {

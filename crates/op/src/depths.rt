@@ -5,6 +5,7 @@ ghost use Rattle.op.specs.Depths.{landing, after_of, taken_depth_of};
 use crate::{Effect, Operand, Refusal, effects};
 
 // The depth that an effect leads to; `low` is what a depth below 0 is refused with.
+#[inline(always)]
 fn land(low: Refusal, depth: u16, effect: Result<Effect, Refusal>) -> Result<u16, Refusal>
     ensures { result ≡ landing low depth effect }
 {
@@ -20,6 +21,7 @@ fn land(low: Refusal, depth: u16, effect: Result<Effect, Refusal>) -> Result<u16
 }
 
 // The depth after falling through: refuses 1, 2, then 4 or 5.
+#[inline(always)]
 pub fn after(depth: u16, opcode: u8, operand: Operand) -> Result<u16, Refusal>
     ensures { result ≡ after_of depth opcode operand }
 {

@@ -44,6 +44,7 @@ const ASSERT_FAILED: u8 = 16;
 const MATCH_KEYS: u8 = 17;
 
 // The row of the rules' numbers, eight opcodes a word.
+#[inline(always)]
 fn word(eight: u8) -> u64
     ensures { result ≡ get_or rule_words eight no_rules }
 {
@@ -70,6 +71,7 @@ fn word(eight: u8) -> u64
 }
 
 // The number of an opcode's rule; SAME where there is no such opcode.
+#[inline(always)]
 fn rule_number(opcode: u8) -> u8
     ensures { result ≡ rule_no opcode }
 {
@@ -77,6 +79,7 @@ fn rule_number(opcode: u8) -> u8
 }
 
 // A rule's effect, by the operand's former and last number.
+#[inline(always)]
 fn rule_effect(rule: u8, m: u32, n: u32) -> Effect
     requires { (m < 256) × (n < 65536) }
     ensures { result ≡ effect_by (rule_at rule) m n }
@@ -122,6 +125,7 @@ fn rule_effect(rule: u8, m: u32, n: u32) -> Effect
 }
 
 // An operand's last number: its count, flags or mode.
+#[inline(always)]
 fn last(operand: Operand) -> u32
     ensures { (result ≡ last_of operand) × (result < 65536) }
 {
@@ -149,6 +153,7 @@ fn last(operand: Operand) -> u32
 }
 
 // The number before it, where an effect goes by it.
+#[inline(always)]
 fn former(operand: Operand) -> u32
     ensures { (result ≡ former_of operand) × (result < 256) }
 {
@@ -176,6 +181,7 @@ fn former(operand: Operand) -> u32
 }
 
 // The effect of an instruction that falls through: refuses 1, then 2.
+#[inline(always)]
 pub fn effect(opcode: u8, operand: Operand) -> Result<Effect, Refusal>
     ensures { (result ≡ effect_of opcode operand) × Small result }
 {
@@ -198,6 +204,7 @@ fn over(a: u8, b: u8) -> u32
 
 // What an opcode does to the depth whatever its operand: refuses 1. The first six rules stand in the order of their
 // effects, so that those are differences: an arm for each would become a chain of tests.
+#[inline(always)]
 pub fn fixed(opcode: u8) -> Result<Option<Effect>, Refusal>
     ensures { result ≡ fixed_of opcode }
 {
@@ -215,6 +222,7 @@ pub fn fixed(opcode: u8) -> Result<Option<Effect>, Refusal>
 }
 
 // The effect of an opcode by its operand's former and last number, without the operand: refuses 1.
+#[inline(always)]
 pub fn by_numbers(opcode: u8, former: u8, last: u16) -> Result<Effect, Refusal>
     ensures { (result ≡ effect_from opcode former last) × Small result }
 {

@@ -4,6 +4,7 @@ ghost use Rattle.std.specs.Prelude.{◌≡◌, ◌<◌};
 ghost use Rattle.op.specs.Inner.{number_in};
 
 // The number at a place of a word.
+#[inline(always)]
 pub fn number_in(word: u64, place: u8) -> u8
     requires { place < 8 }
     ensures { result ≡ number_in word place }

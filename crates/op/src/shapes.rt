@@ -31,6 +31,7 @@ const CALL_ATTR_KW: u8 = 10;
 const U16U16U8: u8 = 11;
 
 // The row of the shapes' numbers, eight opcodes a word.
+#[inline(always)]
 fn word(eight: u8) -> u64
     ensures { result ≡ get_or shape_words eight no_shapes }
 {
@@ -57,6 +58,7 @@ fn word(eight: u8) -> u64
 }
 
 // The number of an opcode's shape; 12 where there is no such opcode.
+#[inline(always)]
 pub fn shape_number(opcode: u8) -> u8
     ensures { result ≡ shape_no opcode }
 {
@@ -64,6 +66,7 @@ pub fn shape_number(opcode: u8) -> u8
 }
 
 // An opcode's shape, or 1.
+#[inline(always)]
 pub fn operand_shape(opcode: u8) -> Result<Shape, Refusal>
     ensures { result ≡ shape_of opcode }
 {
@@ -85,6 +88,7 @@ pub fn operand_shape(opcode: u8) -> Result<Shape, Refusal>
 }
 
 // A shape's number in op.rs.
+#[inline(always)]
 pub fn number(shape: Shape) -> u8
     ensures { result ≡ shape_number shape }
 {
@@ -94,6 +98,7 @@ pub fn number(shape: Shape) -> u8
 impl From<Operand> for Shape {
     ghost from_gives = { λ operand shape. shape ≡ operand_shape operand };
 
+    #[inline(always)]
     fn from(operand: Operand) -> Shape {
         match operand {
             Operand::None => Shape::None,
@@ -117,6 +122,7 @@ const SIZES: u64 = 0x6535_5433_3221;
 
 // How many bytes an instruction of a shape has, with so many keyword names. An arm for each shape would become a jump
 // by a table, which no processor foresees in code whose shapes follow no pattern.
+#[inline(always)]
 pub fn instruction_size(shape: Shape, names: u8) -> usize
     ensures { result ≡ size_of shape names }
 {

@@ -21,10 +21,12 @@ returns-in_err-shape c =
     rw (p.1, p.2) (effect_refused _ c.args.operand _ (sym c.operand_shape.ensures ∙ c.in_err-shape.was), tt)
 
 pub returns-then-ne : goal.returns-then-ne
-returns-then-ne c =
-    (effect_other _ c.args.operand _ (sym c.operand_shape.ensures ∙ c.in_ok-shape.was)
-    (λ e. let same : c.in_ok-shape.shape ≡ c.from.result = same_shape _ _ (e ∙ ap shape_number (sym c.from.ensures)) in
-    search (rules, same)), tt)
+returns-then-ne c = (
+  effect_other _ c.args.operand _ (sym c.operand_shape.ensures ∙ c.in_ok-shape.was)
+      (λ e. let same : c.in_ok-shape.shape ≡ c.from.result = same_shape _ _ (e ∙ ap shape_number (sym c.from.ensures)) in
+      search (rules, same)),
+  tt,
+)
 
 pub returns : goal.returns
 returns c =
