@@ -3,13 +3,10 @@
 use Rattle.op.specs.declared.Refusal.{Refusal}
 use Rattle.std.specs.Prelude.{Ok, Err, Result}
 use mathlib.Core.Path.{◌≡◌, refl, sym, ap, ◌∙◌}
-use mathlib.Core.Bool.{Bool, true, false, cond, ◌||◌}
+use mathlib.Core.Bool.{Bool, true, false, cond}
 use mathlib.Core.List.{List, [], ◌∷◌}
 use Prim.Native.Nat.{ℕ, ◌+◌, ◌*◌, ◌/◌, ◌%◌, ◌^◌, ◌≤◌}
-use native.Mathlib.Nat.{add-zero}
-use lib.Dec.{eqb}
 use lib.ListN.{get_or, get_or-eq_default}
-use borrow.Author.Tests.{ne_eqb}
 use Rattle.op.specs.Opcodes.{known, row_of}
 use Rattle.op.specs.Shapes.{shape_number, shape_in, shape_of, shape_no, size_of}
 use Rattle.op.specs.declared.Refusal.TheVariants.{UnknownOpcode}
@@ -26,7 +23,7 @@ shapes =
 abbrev pub shape_at : ℕ → Result Shape Refusal
 shape_at n = get_or shapes n (Err UnknownOpcode)
 
-shape_at_lem : (s : Shape) → shape_at (shape_number s) ≡ Ok s
+pub shape_at_lem : (s : Shape) → shape_at (shape_number s) ≡ Ok s
 shape_at_lem None = refl
 shape_at_lem U8 = refl
 shape_at_lem I8 = refl
@@ -65,30 +62,25 @@ abbrev pub least_size : ℕ → ℕ
 least_size n = 0x6535_5433_3221 / 2 ^ (4 * n) % 16
 
 -- with them, which two shapes have
-abbrev size_by : ℕ → ℕ → ℕ
-size_by n names = least_size n + cond (eqb n 9 || eqb n 10) (2 * names) 0
-
-size_by_lem : (s : Shape) (names : ℕ) → size_by (shape_number s) names ≡ size_of s names
+pub sized_kw : (s : Shape) (n names : ℕ) → n ≡ shape_number s → s ≡ CallKw → least_size n + 2 * names ≡ size_of s names
 unfolding size_of
-size_by_lem None names = refl
-size_by_lem U8 names = refl
-size_by_lem I8 names = refl
-size_by_lem U16 names = refl
-size_by_lem Offset names = refl
-size_by_lem U8U8 names = refl
-size_by_lem U16U8 names = refl
-size_by_lem U16U16 names = refl
-size_by_lem U16U8U8 names = refl
-size_by_lem CallKw names = refl
-size_by_lem CallAttrKw names = refl
-size_by_lem U16U16U8 names = refl
+sized_kw s n names e is = rw (e, is) refl
 
--- of the number n, answered for the shape s: in an arm of number m
-pub size_arm : (s : Shape) (n m names : ℕ) → n ≡ shape_number s → n ≡ m → size_by m names ≡ size_of s names
-size_arm s n m names e is = ap (λ (x : ℕ). size_by x names) (sym is ∙ e) ∙ size_by_lem s names
+pub sized_attr_kw : (s : Shape) (n names : ℕ) → n ≡ shape_number s → s ≡ CallAttrKw → least_size n + 2 * names ≡ size_of s names
+unfolding size_of
+sized_attr_kw s n names e is = rw (e, is) refl
 
--- in no arm of the two
-pub size_plain : (s : Shape) (n names : ℕ) → n ≡ shape_number s → (n ≡ 9 → ⊥) → (n ≡ 10 → ⊥) → least_size n ≡ size_of s names
-size_plain s n names e kw attr =
-    let none : least_size n ≡ size_by n names = rw (ne_eqb n 9 kw, ne_eqb n 10 attr) (sym (add-zero (least_size n))) in
-    none ∙ size_arm s n n names e refl
+pub sized_plain : (s : Shape) (n names : ℕ) → n ≡ shape_number s → (s ≡ CallKw → ⊥) → (s ≡ CallAttrKw → ⊥) → least_size n ≡ size_of s names
+unfolding size_of
+sized_plain None n names e kw attr = rw e refl
+sized_plain U8 n names e kw attr = rw e refl
+sized_plain I8 n names e kw attr = rw e refl
+sized_plain U16 n names e kw attr = rw e refl
+sized_plain Offset n names e kw attr = rw e refl
+sized_plain U8U8 n names e kw attr = rw e refl
+sized_plain U16U8 n names e kw attr = rw e refl
+sized_plain U16U16 n names e kw attr = rw e refl
+sized_plain U16U8U8 n names e kw attr = rw e refl
+sized_plain CallKw n names e kw attr = absurd (kw refl)
+sized_plain CallAttrKw n names e kw attr = absurd (attr refl)
+sized_plain U16U16U8 n names e kw attr = rw e refl

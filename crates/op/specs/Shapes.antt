@@ -1,7 +1,8 @@
 -- The shapes of operands: op.rs, `OperandShape`, `operand_shape`, `Operand::shape`; R3, R4.
 -- Assumes nothing.
 use Rattle.op.specs.declared.Refusal.{Refusal}
-use Rattle.std.specs.Prelude.{cond, ℕ, ◌+◌, ◌*◌, Ok, Err, Result}
+use Rattle.std.specs.Prelude.{cond, ℕ, ◌+◌, ◌*◌, Ok, Err, Result, ◌≡◌, ◌<◌, MatchResult}
+use Rattle.op.specs.declared.shapes.NoShape.{NoShape}
 use Rattle.op.specs.Opcodes.{Row, op, known, row_of}
 use Rattle.op.specs.declared.Operand.{Operand}
 use Rattle.op.specs.declared.Operand.TheVariants as O
@@ -23,6 +24,10 @@ shape_number S.U16U8U8 = 8
 shape_number S.CallKw = 9
 shape_number S.CallAttrKw = 10
 shape_number S.U16U16U8 = 11
+
+-- a number and the shape whose number it is, or an error with a number that no shape has
+abbrev pub Numbers : ℕ → Result Shape NoShape → Type 0
+Numbers n r = MatchResult r (λ shape. shape_number shape ≡ n) (λ e. (e.0 ≡ n) × (11 < n))
 
 -- a row's shape
 abbrev pub shape_in : Row → Shape

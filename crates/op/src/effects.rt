@@ -6,7 +6,8 @@ ghost use Rattle.op.specs.Inner.{rule_no, rule_at, rule_words, no_rules};
 
 use crate::{Effect, Operand, Refusal, Shape, opcodes, rows, shapes};
 
-// The rules of effects, by numbers of our own.
+// The rules of effects, by numbers of our own. They stand in the row of words below: an enum would need a second table, from
+// its numbers, only to be matched once.
 const MINUS_3: u8 = 0;
 
 const MINUS_2: u8 = 1;

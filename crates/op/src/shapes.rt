@@ -1,34 +1,39 @@
 // The shapes of operands and the sizes of instructions.
 ghost use Rattle.std.specs.Prelude.{◌≡◌, get_or};
-ghost use Rattle.op.specs.Shapes.{shape_number, shape_of, operand_shape, shape_no, size_of};
+ghost use Rattle.op.specs.Shapes.{Numbers, shape_number, shape_of, operand_shape, shape_no, size_of};
 ghost use Rattle.op.specs.Inner.{shape_words, no_shapes};
 
 use crate::{Operand, Refusal, Shape, rows};
 
-// The shapes' numbers in op.rs.
-const NONE: u8 = 0;
+// A number that is no shape's.
+#[derive(Clone, Copy, Debug, PartialEq, Eq)]
+pub struct NoShape(pub u8);
 
-const U8: u8 = 1;
+// By the shapes' numbers in op.rs, which are those of the enum's order.
+impl TryFrom<u8> for Shape {
+    type Error = NoShape;
 
-const I8: u8 = 2;
+    ghost try_from_gives = { Numbers };
 
-const U16: u8 = 3;
-
-const OFFSET: u8 = 4;
-
-const U8U8: u8 = 5;
-
-const U16U8: u8 = 6;
-
-const U16U16: u8 = 7;
-
-const U16U8U8: u8 = 8;
-
-const CALL_KW: u8 = 9;
-
-const CALL_ATTR_KW: u8 = 10;
-
-const U16U16U8: u8 = 11;
+    #[inline(always)]
+    fn try_from(number: u8) -> Result<Self, NoShape> {
+        match number {
+            0 => Ok(Shape::None),
+            1 => Ok(Shape::U8),
+            2 => Ok(Shape::I8),
+            3 => Ok(Shape::U16),
+            4 => Ok(Shape::Offset),
+            5 => Ok(Shape::U8U8),
+            6 => Ok(Shape::U16U8),
+            7 => Ok(Shape::U16U16),
+            8 => Ok(Shape::U16U8U8),
+            9 => Ok(Shape::CallKw),
+            10 => Ok(Shape::CallAttrKw),
+            11 => Ok(Shape::U16U16U8),
+            _ => Err(NoShape(number)),
+        }
+    }
+}
 
 // The row of the shapes' numbers, eight opcodes a word.
 #[inline(always)]
@@ -70,21 +75,10 @@ pub fn shape_number(opcode: u8) -> u8
 pub fn operand_shape(opcode: u8) -> Result<Shape, Refusal>
     ensures { result ≡ shape_of opcode }
 {
-    match shape_number(opcode) {
-        NONE => Ok(Shape::None),
-        U8 => Ok(Shape::U8),
-        I8 => Ok(Shape::I8),
-        U16 => Ok(Shape::U16),
-        OFFSET => Ok(Shape::Offset),
-        U8U8 => Ok(Shape::U8U8),
-        U16U8 => Ok(Shape::U16U8),
-        U16U16 => Ok(Shape::U16U16),
-        U16U8U8 => Ok(Shape::U16U8U8),
-        CALL_KW => Ok(Shape::CallKw),
-        CALL_ATTR_KW => Ok(Shape::CallAttrKw),
-        U16U16U8 => Ok(Shape::U16U16U8),
-        _ => Err(Refusal::UnknownOpcode),
-    }
+    let Ok(shape) = Shape::try_from(shape_number(opcode)) else {
+        return Err(Refusal::UnknownOpcode);
+    };
+    Ok(shape)
 }
 
 // A shape's number in op.rs.
@@ -126,12 +120,10 @@ const SIZES: u64 = 0x6535_5433_3221;
 pub fn instruction_size(shape: Shape, names: u8) -> usize
     ensures { result ≡ size_of shape names }
 {
-    let n = number(shape);
-    let least = (SIZES >> (4 * n)) % 16;
-    let size = least as usize;
-    match n {
-        CALL_KW => size + 2 * names as usize,
-        CALL_ATTR_KW => size + 2 * names as usize,
+    let size = ((SIZES >> (4 * number(shape))) % 16) as usize;
+    match shape {
+        Shape::CallKw => size + 2 * names as usize,
+        Shape::CallAttrKw => size + 2 * names as usize,
         _ => size,
     }
 }
