@@ -2,7 +2,6 @@
 -- Assumes nothing.
 use Rattle.code.specs.Decode.{instr}
 use Rattle.code.specs.Decode.{Step}
-use Rattle.op.specs.Effects.{by}
 use Rattle.text.specs.Fitting.{Listed}
 use Rattle.std.specs.Prelude.{Ok, Err, Result, Some, None}
 use mathlib.Core.Path.{◌≡◌, refl, sym, ap, ◌∙◌}
@@ -139,7 +138,10 @@ module _ (depths code : List ℕ) (at : ℕ) (old : List ℕ) (to : ℕ) (lent :
       → Told depths code at old to (went_by (placed_of old to (step_text (column_of depths at) at (drop at code) s)) at to
       (step_next (column_of depths at) at (drop at code) s) (step_more s))
       (written old to (step_text (column_of depths at) at (drop at code) s))
-  stepped (Ok (Some (instr k o z))) e =
+  stepped (Ok (Some i)) e =
+      let k = i.opcode in
+      let o = i.operand in
+      let z = i.size in
       let d = decoded_ends last_opcode at code k o z e in
       let text = column_of depths at ++ line_of name_of at (drop at code) in
       went text (at + z) true (lines_from depths code (at + z)) (from_line depths code at k o z e) (omega (arith, d)) (λ m. (omega (arith, d), d.1))

@@ -2,7 +2,6 @@
 -- Assumes nothing.
 use Rattle.code.specs.Decode.{instr}
 use Rattle.code.specs.Decode.{Step}
-use Rattle.op.specs.Effects.{by}
 use Rattle.std.specs.Prelude.{Ok, Err, Some, None, Option}
 use mathlib.Core.Path.{◌≡◌, refl, sym, ap, ◌∙◌}
 use mathlib.Core.Bool.{Bool, true, false, cond}
@@ -108,7 +107,10 @@ pub own_names : (at : ℕ) (u : List ℕ) → line_of (name_by name_text name_st
 own_names at u = by (decode last_opcode at u) refl
   where
     by : (s : Step) → decode last_opcode at u ≡ s → line_of (name_by name_text name_starts) at u ≡ line_of name_of at u
-    by (Ok (Some (instr k o z))) e =
+    by (Ok (Some i)) e =
+        let k = i.opcode in
+        let o = i.operand in
+        let z = i.size in
         let d = decoded last_opcode at u k o z e in
         line_of_lem (name_by name_text name_starts) at u k o z e
         ∙ ap (λ (n : List ℕ). line_text at n o u) (name_by_lem k (known_below k (operand_shape o) d.shape))
