@@ -1,6 +1,5 @@
 -- Laws of `shape_of` and `effect_of`: what a known shape says of the effect; and of the effect without its operand.
 -- Assumes nothing.
-use lib.Dec.{eqb}
 use Rattle.op.specs.Effects.{by}
 use Rattle.op.specs.declared.Effect.{Effect}
 use Rattle.std.specs.Prelude.{Ok, Err, Some, None, Result, Option}
