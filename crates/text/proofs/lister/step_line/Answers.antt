@@ -23,8 +23,7 @@ stands a s f = sym a ∙ s ∙ ap (λ (x : Option Instr). Ok x) f
 
 pub line-placed-requires : goal.line-placed-requires
 line-placed-requires c =
-    let i = c.in-Some.instr in
-    (
+    let i = c.in-Some.instr in (
       lean c.args.at i.operand c.args.code.now
           (found c.args.code.now c.args.at i.opcode i.operand i.size c.requires.0.small (stands c.requires.0.is c.in-Ok.is c.in-Some.is))
           (λ j. omega (arith, c.type_inv.code j)),
@@ -48,7 +47,7 @@ returns-in-Some c =
     c.args.to i.opcode i.operand i.size (stands c.requires.0.is c.in-Ok.is c.in-Some.is)
     (same_places (ap (λ (n : List ℕ). c.args.front.now ++ line_text c.args.at n
     i.operand (drop c.args.at c.args.code.now))
-    (rw (c.requires.0.text, c.requires.0.start) at c.of_opcode-name.ensures))
+    c.of-name.ensures)
     c.line-placed.ensures))
 
 pub returns-in-Err : goal.returns-in-Err
