@@ -3,12 +3,13 @@
 #![tactic(auto)]
 
 ghost use Rattle.std.specs.Prelude.{◌≡◌};
-ghost use Rattle.op.specs.Names.{name_by};
+ghost use Rattle.op.specs.Names.{name_of};
 ghost use Rattle.op.specs.Shapes.{shape_no};
 ghost use Rattle.fingerprint.specs.Fnv.{wrapped, mixed, hash_from, fnv1a_of};
 ghost use Rattle.fingerprint.specs.Table.{bytes_by, fingerprint};
 
-use op::{names, opcodes, shapes};
+use op::names::Names;
+use op::{opcodes, shapes};
 
 // op.rs, `opcode_fingerprint`.
 const OFFSET_BASIS: u64 = 0xcbf2_9ce4_8422_2325;
@@ -51,13 +52,12 @@ pub fn fnv1a(bytes: &[u8]) -> u64
     hash_on(OFFSET_BASIS, bytes)
 }
 
-// The hash with what the table has of an opcode: its byte, its name in the lent text, a zero byte, its shape's number.
+// The hash with what the table has of an opcode: its byte, its name, a zero byte, its shape's number.
 #[tactic(auto, using(crate::proofs::Tabled::hash_parts))]
-fn opcode_on(hash: u64, opcode: u8, texts: &[u8], starts: &[usize]) -> u64
-    ensures { result ≡ hash_from hash (bytes_by opcode (name_by texts.now starts.now opcode) (shape_no opcode)) }
+fn opcode_on(hash: u64, opcode: u8, names: &Names) -> u64
+    ensures { result ≡ hash_from hash (bytes_by opcode (name_of opcode) (shape_no opcode)) }
 {
-    let name = names::of_opcode(opcode, texts, starts);
-    let named = hash_on(mix(hash, opcode), name);
+    let named = hash_on(mix(hash, opcode), names.of(opcode));
     mix(mix(named, 0), shapes::shape_number(opcode))
 }
 
@@ -65,11 +65,10 @@ fn opcode_on(hash: u64, opcode: u8, texts: &[u8], starts: &[usize]) -> u64
 pub fn opcode_fingerprint() -> u64
     ensures { result ≡ fingerprint }
 {
-    let texts = names::text();
-    let starts = names::starts();
+    let names = Names::new();
     let mut hash = OFFSET_BASIS;
     for opcode in 0..=opcodes::LAST {
-        hash = opcode_on(hash, opcode, &texts, &starts);
+        hash = opcode_on(hash, opcode, &names);
     }
     hash
 }

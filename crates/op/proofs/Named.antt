@@ -5,6 +5,7 @@ use mathlib.Core.List.{List, [], ◌∷◌, ◌++◌}
 use Prim.Native.Nat.{ℕ, zero, suc, ◌+◌, ◌-◌, ◌≤◌, ◌<◌}
 use native.Mathlib.Nat.{not-suc-le-zero, le_of_suc-le-suc, zero-add}
 use native.Mathlib.Numerals.{add-one}
+use native.Mathlib.Decide.{dec_lt}
 use native.Mathlib.Omega.{arith}
 use lib.ListN.{length, get_or, take, drop, length-append, get_or-eq_default}
 use lib.Seq.{take_at, drop-append-add}
@@ -82,6 +83,21 @@ unfolding name_by
 past_starts text starts k h =
     let z : get_or starts (k + 1) 0 ≡ 0 = get_or-eq_default starts 0 {n = k + 1} h in
     rw z (empty_part text (get_or starts k 0) 0 (omega arith) (omega arith))
+
+starts_size : length name_starts ≡ suc (length table)
+unfolding name_starts table
+starts_size = refl
+
+-- the name that is found is the opcode's, or there is none
+pub own_name : (k : ℕ) → name_by name_text name_starts k ≡ name_of k
+unfolding name_of row_of
+own_name k = by (dec_lt k (length table))
+  where
+    by : Dec (k < length table) → name_by name_text name_starts k ≡ name_of k
+    by (yes h) = name_by_lem k h
+    by (no h) =
+        sym (past_starts name_text name_starts k (omega (arith, starts_size)))
+        ∙ sym (ap name_in (get_or-eq_default table none {n = k} (omega arith)))
 
 -- the opcodes that the rules name have those names
 pub named : (name_of Jump ≡ ascii "Jump")

@@ -1,7 +1,7 @@
 // The opcodes' names, as op.rs has them: one text, and where in it each begins. A const array is made anew at each use, so the two
-// are made once, by the caller, and lent.
+// are made once, by the caller, and lent: as `Names`.
 ghost use Rattle.std.specs.Prelude.{◌≡◌};
-ghost use Rattle.op.specs.Names.{name_text, name_starts, name_by};
+ghost use Rattle.op.specs.Names.{name_text, name_starts, name_by, name_of};
 
 const TEXT: [u8; 1315] =
     *b"PopDupRot2Rot3LoadConstLoadNoneLoadTrueLoadFalseLoadSmallIntLoadLocal0LoadLocal1LoadLocal2LoadLocal3LoadLocalLoadLocalWStoreLocalStoreLocalWLoadGlobalStoreGlobalLoadCellStoreCellDeleteLocalLoadGlobalCallableBinaryAddBinarySubBinaryMulBinaryDivBinaryFloorDivBinaryModBinaryPowBinaryAndBinaryOrBinaryXorBinaryLShiftBinaryRShiftBinaryMatMulCompareEqCompareNeCompareLtCompareLeCompareGtCompareGeCompareIsCompareIsNotCompareInCompareNotInUnaryNotUnaryNegUnaryPosUnaryInvertInplaceAddInplaceSubInplaceMulInplaceDivInplaceFloorDivInplaceModInplacePowInplaceAndInplaceOrInplaceXorInplaceLShiftInplaceRShiftBuildListBuildTupleBuildDictBuildSetFormatValueBuildFStringBuildSliceListExtendListToTupleDictMergeListAppendSetAddDictSetItemBinarySubscrStoreSubscrLoadAttrLoadAttrImportStoreAttrCallFunctionCallBuiltinFunctionCallBuiltinTypeCallFunctionKwCallAttrCallAttrKwCallFunctionExtendedCallAttrExtendedJumpJumpIfTrueJumpIfFalseJumpIfTrueOrPopJumpIfFalseOrPopGetIterForIterMakeFunctionMakeClosureRaiseReraiseClearExceptionCheckExcMatchReturnValueAwaitUnpackSequenceUnpackExNopLoadModuleLoadSubmoduleDup2DeleteGlobalDictUpdateSetExtendBeforeWithWithExitWithExceptStartLiftToTopRaiseUnboundLocalMethodDictMergeAssertAssertFailedBuildCellDeleteCellLoadNameStoreNameDeleteNameMatchShapeMatchKeysMatchClassMatchAttrSinkTopRaiseFrom";
@@ -48,4 +48,29 @@ pub fn of_opcode<'a>(opcode: u8, text: &'a [u8], starts: &[usize]) -> &'a [u8]
         return &text[0..0];
     }
     &text[a..e]
+}
+
+// All names, made once for many look-ups.
+#[derive(Drop)]
+pub struct Names {
+    text: [u8; 1315],
+    starts: [usize; 132],
+    ghost own: { (text ≡ name_text) × (starts ≡ name_starts) },
+}
+
+impl Names {
+    pub fn new() -> Names {
+        Names {
+            text: text(),
+            starts: starts(),
+        }
+    }
+
+    // An opcode's name; nothing for a number that is no opcode's.
+    #[tactic(auto, using(crate::proofs::Named::own_name))]
+    pub fn of(&self, opcode: u8) -> &[u8]
+        ensures { result.now ≡ name_of opcode }
+    {
+        of_opcode(opcode, &self.text, &self.starts)
+    }
 }

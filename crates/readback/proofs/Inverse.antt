@@ -1,6 +1,5 @@
 -- Reading a listing and listing a code are each other's inverse.
 -- Assumes nothing.
-use Rattle.code.specs.Decode.{instr}
 use Rattle.code.specs.Decode.{Step}
 use Rattle.std.specs.Prelude.{Ok, Err, Some, None}
 use mathlib.Core.Path.{◌≡◌, refl, sym, ap, ◌∙◌, subst}
@@ -142,9 +141,10 @@ module _ (room : ℕ) where
       → ((z : ℕ) → 0 < z → z ≤ length u → (instructions_from last_opcode (at + z) (drop z u)).fault ≡ None
       → ReadAs (at + z) (drop z u) (instructions_from last_opcode (at + z) (drop z u)))
       → ReadAs at u (read_by last_opcode (instructions_from last_opcode) at u t)
-  read_step at u b h (Ok (Some (instr k o z))) e f later =
-      let d = decoded last_opcode at u k o z e in
-      read_line at u b h k o z d (instructions_from last_opcode (at + z) (drop z u)) (later z d.some d.fits f)
+  read_step at u b h (Ok (Some i)) e f later =
+      let z = i.size in
+      let d = decoded last_opcode at u i.opcode i.operand z e in
+      read_line at u b h i.opcode i.operand z d (instructions_from last_opcode (at + z) (drop z u)) (later z d.some d.fits f)
   read_step at u b h (Ok None) e f later = read_end at u (decode_end last_opcode at u e)
   read_step at u b h (Err r) e f later = clash cc
 

@@ -1,6 +1,5 @@
 -- An instruction by its name and its operand column, and its bytes.
 -- Assumes nothing.
-use Rattle.op.specs.Effects.{by}
 use Rattle.std.specs.Prelude.{Ok, Err, Some, None, Result, Option}
 use mathlib.Core.Path.{◌≡◌, refl, sym, ap, ◌∙◌}
 use mathlib.Core.Bool.{Bool, true, false, cond}

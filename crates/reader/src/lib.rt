@@ -12,10 +12,7 @@ use code::{Step, decoder};
 fn after(code: &[u8], at: usize, step: Step) -> usize
     ensures { result ≡ after_step (length code.now) at step }
 {
-    let Ok(found) = step else {
-        return at;
-    };
-    let Some(instr) = found else {
+    let Ok(Some(instr)) = step else {
         return at;
     };
     if at < code.len() && instr.size <= code.len() - at {

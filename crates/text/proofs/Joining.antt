@@ -1,8 +1,6 @@
 -- The parts of a listing, one behind the other, are the listing.
 -- Assumes nothing.
-use Rattle.code.specs.Decode.{instr}
 use Rattle.code.specs.Decode.{Step}
-use Rattle.op.specs.Effects.{by}
 use Rattle.std.specs.Prelude.{Ok, Err, Some, None, Option}
 use mathlib.Core.Path.{◌≡◌, refl, sym, ap, ◌∙◌, subst}
 use mathlib.Core.Bool.{Bool, true, false, cond}
@@ -193,8 +191,8 @@ module _ (first depths code : List ℕ) (cells : length depths ≤ suc (length c
   by_step : (at : ℕ) (l : Line) (ls : List Line) (s : Step) → decode last_opcode at (drop at code) ≡ s
       → lines_from depths code at ≡ l ∷ ls
       → lines_at first depths code l.next ≡ ls
-  by_step at l ls (Ok (Some (instr k o z))) d e =
-      let f = sym (from_line depths code at k o z d) ∙ e in
+  by_step at l ls (Ok (Some i)) d e =
+      let f = sym (from_line depths code at i.opcode i.operand i.size d) ∙ e in
       ap (λ (m : ℕ). lines_at first depths code m) (sym (cons_next f)) ∙ cons_rest f
   by_step at l ls (Ok None) d e =
       at_end_lem at l ls (ended at d) (ltb at (length depths)) (sym (end_is at) ∙ sym (from_end depths code at d) ∙ e)

@@ -2,7 +2,6 @@
 -- Assumes nothing.
 use Rattle.code.specs.Decode.{instr}
 use Rattle.code.specs.Decode.{Step}
-use Rattle.op.specs.Effects.{by}
 use Rattle.text.specs.Fitting.{Listed}
 use Rattle.std.specs.Prelude.{Ok, Err, Result, Some, None}
 use mathlib.Core.Path.{◌≡◌, refl, sym, ap, ◌∙◌}
@@ -15,7 +14,7 @@ use lib.Dec.{leb, ltb}
 use lib.ListN.{length, drop, get_or, length-drop, length-append}
 use lib.Seq.{sets, length-sets}
 use borrow.Author.Tests.{le-leb, lt-leb, leb-true, leb-false}
-use Rattle.op.specs.Names.{ascii, name_of, name_text, name_starts, name_by}
+use Rattle.op.specs.Names.{ascii, name_of}
 use Rattle.op.specs.Opcodes.{last_opcode}
 use Rattle.op.specs.declared.Operand.{Operand}
 use Rattle.op.specs.declared.Operand.TheVariants as O
@@ -30,14 +29,18 @@ use Rattle.text.specs.Fitting.{Line, line_to, Part, no_line, onto, fit, said_of,
 use Rattle.text.specs.Lines.{depth_text, column_of, end_line, end_lines, lines_from, lines_at}
 use Rattle.text.specs.Fields.{line_text, Lean}
 use Rattle.text.specs.Listing.{fault_line, line_of}
-use Rattle.text.specs.Inner.{went_by, step_text, step_next, step_more, Steps, Lent, left, turns, Fills, Told}
+use Rattle.text.specs.Inner.{went_by, goes_on, cut_off, step_text, step_next, step_going, Steps, Lent, left, turns, Fills, Told}
 use Rattle.text.specs.Inner.{said_by, Goes}
 use Rattle.text.specs.Put.{Places, placed_of, written}
 use Rattle.text.specs.declared.lister.Progress.{Progress}
+use denote.Enum.Bare.{sameb}
+use Rattle.text.specs.contracts.lister.Going.{the_type}
+use Rattle.text.specs.declared.lister.Going.{Going}
+use Rattle.text.specs.declared.lister.Going.TheVariants.{On, Ended, Cut}
 use Rattle.text.proofs.Pieces.{from_line, from_end, from_fault, fit_line, fit_full, fit_none, onto_onto}
 use Rattle.text.proofs.Putting.{then, sets_append}
 use Rattle.text.proofs.Lining.{line_of_lem, fault_of, end_of}
-use Rattle.text.proofs.Whole.{faulted, own_names}
+use Rattle.text.proofs.Whole.{faulted}
 
 -- a column is there or not
 column_some : (depths : List ℕ) (at : ℕ) → ltb at (length depths) ≡ true → 1 ≤ length (column_of depths at)
@@ -57,6 +60,17 @@ pub end_none : (depths : List ℕ) (at : ℕ) → ltb at (length depths) ≡ fal
 unfolding end_lines
 end_none depths at e = rw e
 
+-- the code's tests are those of the definitions
+pub on_is : (g : Going) → sameb the_type g On ≡ goes_on g
+on_is On = refl
+on_is Ended = refl
+on_is Cut = refl
+
+pub cut_is : (g : Going) → sameb the_type g Cut ≡ cut_off g
+cut_is On = refl
+cut_is Ended = refl
+cut_is Cut = refl
+
 -- no line more
 ended : {A : Type 0} → false ≡ true → A
 ended e = let y : ◌≡◌ {A = ℕ} 0 1 = cc in let z : ⊥ = omega arith in absurd z
@@ -66,13 +80,13 @@ module _ (depths code : List ℕ) (at : ℕ) (old : List ℕ) (to : ℕ) (lent :
   room = length old - to
 
   -- the next line is to be put, and behind it come `rest`: the lines from `next` on where there may be more, else none
-  module _ (text : List ℕ) (next : ℕ) (more : Bool) (rest : List Line)
+  module _ (text : List ℕ) (next : ℕ) (more : Going) (rest : List Line)
       (is : lines_from depths code at ≡ line_to text (suc next) ∷ rest)
-      (near : next ≤ suc (length code)) (on : more ≡ true → (at < next) × (next ≤ length code)) where
+      (near : next ≤ suc (length code)) (on : goes_on more ≡ true → (at < next) × (next ≤ length code)) where
     -- it has room
     put : length text ≤ room → fit (room - length text) (suc next) rest
-        ≡ left depths code (length old) (record { at = next; to = to + length text; more = more; full = false })
-        → Fills depths code at old to (record { at = next; to = to + length text; more = more; full = false })
+        ≡ left depths code (length old) (record { at = next; to = to + length text; going = more })
+        → Fills depths code at old to (record { at = next; to = to + length text; going = more })
         (sets old to text)
     put h e = record {
       text = text;
@@ -85,7 +99,7 @@ module _ (depths code : List ℕ) (at : ℕ) (old : List ℕ) (to : ℕ) (lent :
     }
 
     -- it has not
-    kept : room < length text → Fills depths code at old to (record { at = at; to = to; more = false; full = true }) old
+    kept : room < length text → Fills depths code at old to (record { at = at; to = to; going = Cut }) old
     kept h = record {
       text = [];
       puts = record { next_is = omega arith; out_is = refl };
@@ -94,14 +108,15 @@ module _ (depths code : List ℕ) (at : ℕ) (old : List ℕ) (to : ℕ) (lent :
       far = λ f. refl;
     }
 
-    fewer : (more' : Bool) → more ≡ more'
-        → turns code (record { at = next; to = to + length text; more = more'; full = false }) < suc (length code - at)
-    fewer true e = omega (arith, on e)
-    fewer false e = omega arith
+    fewer : (more' : Going) → more ≡ more'
+        → turns code (record { at = next; to = to + length text; going = more' }) < suc (length code - at)
+    fewer On e = omega (arith, on (ap goes_on e))
+    fewer Ended e = omega arith
+    fewer Cut e = omega arith
 
-    module _ (after : more ≡ true → next ≡ after_step (length code) at (decode last_opcode at (drop at code)))
+    module _ (after : goes_on more ≡ true → next ≡ after_step (length code) at (decode last_opcode at (drop at code)))
         (e : fit (room - length text) (suc next) rest
-        ≡ left depths code (length old) (record { at = next; to = to + length text; more = more; full = false }))
+        ≡ left depths code (length old) (record { at = next; to = to + length text; going = more }))
       where
         pub by_room : (b : Bool) → leb (length text) room ≡ b
             → Told depths code at old to (went_by (cond b (Ok (to + length text)) (Err (Full Text))) at to
@@ -118,7 +133,7 @@ module _ (depths code : List ℕ) (at : ℕ) (old : List ℕ) (to : ℕ) (lent :
         went = by_room (leb (length text) room) refl
 
   -- no line is left
-  none : lines_from depths code at ≡ [] → Told depths code at old to (went_by (placed_of old to []) at to at false)
+  none : lines_from depths code at ≡ [] → Told depths code at old to (went_by (placed_of old to []) at to at Ended)
       (written old to [])
   unfolding placed_of written
   none is =
@@ -137,12 +152,15 @@ module _ (depths code : List ℕ) (at : ℕ) (old : List ℕ) (to : ℕ) (lent :
   -- by the cases of the step
   stepped : (s : Step) → decode last_opcode at (drop at code) ≡ s
       → Told depths code at old to (went_by (placed_of old to (step_text (column_of depths at) at (drop at code) s)) at to
-      (step_next (column_of depths at) at (drop at code) s) (step_more s))
+      (step_next (column_of depths at) at (drop at code) s) (step_going s))
       (written old to (step_text (column_of depths at) at (drop at code) s))
-  stepped (Ok (Some (instr k o z))) e =
+  stepped (Ok (Some i)) e =
+      let k = i.opcode in
+      let o = i.operand in
+      let z = i.size in
       let d = decoded_ends last_opcode at code k o z e in
       let text = column_of depths at ++ line_of name_of at (drop at code) in
-      went text (at + z) true (lines_from depths code (at + z)) (from_line depths code at k o z e) (omega (arith, d)) (λ m. (omega (arith, d), d.1))
+      went text (at + z) On (lines_from depths code (at + z)) (from_line depths code at k o z e) (omega (arith, d)) (λ m. (omega (arith, d), d.1))
       (λ m. sym (ap (λ (x : Step). after_step (length code) at x) e
       ∙ rw (le-leb z (length code - at) (omega (arith, d)))))
       (ap (λ (n : ℕ). fit n (suc (at + z)) (lines_from depths code (at + z))) (omega arith))
@@ -151,17 +169,17 @@ module _ (depths code : List ℕ) (at : ℕ) (old : List ℕ) (to : ℕ) (lent :
       by : (b : Bool) → ltb at (length depths) ≡ b
           → Told depths code at old to
           (went_by (placed_of old to (step_text (column_of depths at) at (drop at code) (Ok None))) at to
-          (step_next (column_of depths at) at (drop at code) (Ok None)) false)
+          (step_next (column_of depths at) at (drop at code) (Ok None)) Ended)
           (written old to (step_text (column_of depths at) at (drop at code) (Ok None)))
       by true p =
           rw (le-leb 1 (length (column_of depths at)) (column_some depths at p))
-          (went (column_of depths at ++ end_line at) (suc at) false [] (from_end depths code at e ∙ end_some depths at p)
+          (went (column_of depths at ++ end_line at) (suc at) Ended [] (from_end depths code at e ∙ end_some depths at p)
           (omega (arith, lent.cells, leb-true (suc at) (length depths) p))
           ended ended (fit_none (room - length (column_of depths at ++ end_line at)) (suc (suc at))))
       by false p = rw (column_none depths at p) (none (from_end depths code at e ∙ end_none depths at p))
   stepped (Err r) e =
       let here = faulted at (drop at code) r e in
-      went (line_of name_of at (drop at code)) (suc (at + length (drop at code))) false []
+      went (line_of name_of at (drop at code)) (suc (at + length (drop at code))) Ended []
       (from_fault depths code at r e) (omega (arith, here, length-drop at code))
       ended ended (fit_none (room - length (line_of name_of at (drop at code))) (suc (suc (at + length (drop at code)))))
 
@@ -172,7 +190,7 @@ module _ (depths code : List ℕ) (at : ℕ) (old : List ℕ) (to : ℕ) (lent :
 
 -- at first nothing is put
 pub unfilled : (depths code : List ℕ) (at : ℕ) (old : List ℕ) (to : ℕ) → to ≤ length old
-    → Fills depths code at old to (record { at = at; to = to; more = true; full = false }) old
+    → Fills depths code at old to (record { at = at; to = to; going = On }) old
 unfilled depths code at old to h = record {
   text = [];
   puts = record { next_is = omega arith; out_is = refl };
@@ -186,7 +204,7 @@ module _ {depths code old out : List ℕ} {at to : ℕ} {p : Progress} (f : Fill
   pub filled_length : length out ≡ length old
   filled_length = ap length f.puts.out_is ∙ length-sets old to f.text
 
-  pub onward : {q : Progress} {out' : List ℕ} → p.more ≡ true → Fills depths code p.at out p.to q out'
+  pub onward : {q : Progress} {out' : List ℕ} → goes_on p.going ≡ true → Fills depths code p.at out p.to q out'
       → Fills depths code at old to q out'
   onward {q} {out'} m g = record {
     text = f.text ++ g.text;
@@ -196,7 +214,7 @@ module _ {depths code old out : List ℕ} {at to : ℕ} {p : Progress} (f : Fill
         f.part
         ∙ ap (λ (b : Bool). onto f.text
         (cond b (fit (length old - p.to) (suc p.at) (lines_from depths code p.at))
-        (no_line (suc p.at) p.full))) m
+        (no_line (suc p.at) (cut_off p.going)))) m
         ∙ ap (λ (n : ℕ). onto f.text (fit (n - p.to) (suc p.at) (lines_from depths code p.at)))
         (sym filled_length)
         ∙ ap (λ (x : Part). onto f.text x) g.part
@@ -216,18 +234,18 @@ near {depths} {code} {old} {out} {at} {to} {p} top f h g = by (dec_lt (suc (leng
 
 -- the lines end
 pub goes : {depths code old out : List ℕ} {at to : ℕ} {p : Progress} → Fills depths code at old to p out
-    → p.more ≡ false → Goes depths code at old to (said_by p) out
+    → goes_on p.going ≡ false → Goes depths code at old to (said_by p) out
 unfolding said_by
 goes {depths} {code} {old} {out} {at} {to} {p} f m =
     let e : fit (length old - to) (suc at) (lines_from depths code at)
-    ≡ record { text = f.text; next = suc p.at; full = p.full } =
+    ≡ record { text = f.text; next = suc p.at; full = (cut_off p.going) } =
     f.part
     ∙ ap (λ (b : Bool). onto f.text
     (cond b (fit (length old - p.to) (suc p.at) (lines_from depths code p.at))
-    (no_line (suc p.at) p.full))) m
-    ∙ ap (λ (t : List ℕ). record { text = t; next = suc p.at; full = p.full }) (append-nil f.text) in
+    (no_line (suc p.at) (cut_off p.going)))) m
+    ∙ ap (λ (t : List ℕ). record { text = t; next = suc p.at; full = (cut_off p.going) }) (append-nil f.text) in
     record {
-      answers = rw e (ap (λ (n : ℕ). said_of n (no_line (suc p.at) p.full)) f.puts.next_is);
+      answers = rw e (ap (λ (n : ℕ). said_of n (no_line (suc p.at) (cut_off p.going))) f.puts.next_is);
       cells = rw e f.puts.out_is;
     }
 
@@ -282,50 +300,50 @@ lists_first {first} {depths} {code} {old} {mid} {out} {to} {answer} p g =
 -- the line of each step, as it is placed
 module _ (code : List ℕ) (at : ℕ) (front old : List ℕ) (to : ℕ) where
   pub end_nothing : length front ≡ 0 → Steps front code at (Ok None) old to
-      (record { at = at; to = to; more = false; full = false }) old
+      (record { at = at; to = to; going = Ended }) old
   unfolding placed_of written
   end_nothing h =
       let e : ltb 0 (length front) ≡ false = lt-leb 1 (length front) (omega arith) in
       let same : to ≡ to + 0 = omega arith in
       record {
         answers = rw (e, le-leb 0 (length old - to) (omega arith))
-            (ap (λ (n : ℕ). record { at = at; to = n; more = false; full = false }) same);
+            (ap (λ (n : ℕ). record { at = at; to = n; going = Ended }) same);
         cells = rw (e, le-leb 0 (length old - to) (omega arith));
       }
 
   pub end_placed : {p : Result ℕ Refusal} {out : List ℕ} → 0 < length front
       → Places old to (front ++ line_text at (ascii "end") O.None (drop at code)) p out
-      → Steps front code at (Ok None) old to (went_by p at to (at + 1) false) out
+      → Steps front code at (Ok None) old to (went_by p at to (at + 1) Ended) out
   end_placed {p} {out} h q =
       let e : ltb 0 (length front) ≡ true = le-leb 1 (length front) h in
       let n : at + 1 ≡ suc at = omega arith in
       let t = end_of at (drop at code) in
       record {
-        answers = rw e (ap (λ (x : Result ℕ Refusal). went_by x at to (at + 1) false) (rw t at q.answers) ∙ ap (λ (k : ℕ). went_by (placed_of old to (front ++ end_line at)) at to k false) n);
+        answers = rw e (ap (λ (x : Result ℕ Refusal). went_by x at to (at + 1) Ended) (rw t at q.answers) ∙ ap (λ (k : ℕ). went_by (placed_of old to (front ++ end_line at)) at to k Ended) n);
         cells = rw e (rw t at q.cells);
       }
 
   pub fault_placed : {p : Result ℕ Refusal} {out : List ℕ} (r : Refusal) → decode last_opcode at (drop at code) ≡ Err r
       → Places old to (fault_line at r) p out
-      → Steps front code at (Err r) old to (went_by p at to (length code + 1) false) out
+      → Steps front code at (Err r) old to (went_by p at to (length code + 1) Ended) out
   fault_placed {p} {out} r e q =
       let t = sym (fault_of name_of at (drop at code) r e) in
       let n : length code + 1 ≡ suc (at + length (drop at code)) = omega (arith, faulted at (drop at code) r e, length-drop at code) in
       record {
         answers =
-            ap (λ (x : Result ℕ Refusal). went_by x at to (length code + 1) false) (rw t at q.answers)
-            ∙ ap (λ (k : ℕ). went_by (placed_of old to (line_of name_of at (drop at code))) at to k false) n;
+            ap (λ (x : Result ℕ Refusal). went_by x at to (length code + 1) Ended) (rw t at q.answers)
+            ∙ ap (λ (k : ℕ). went_by (placed_of old to (line_of name_of at (drop at code))) at to k Ended) n;
         cells = rw t at q.cells;
       }
 
   pub line_placed : {p : Result ℕ Refusal} {out : List ℕ} (k : ℕ) (o : Operand) (z : ℕ)
       → decode last_opcode at (drop at code) ≡ Ok (Some (instr k o z))
-      → Places old to (front ++ line_text at (name_by name_text name_starts k) o (drop at code)) p out
-      → Steps front code at (Ok (Some (instr k o z))) old to (went_by p at to (at + z) true) out
+      → Places old to (front ++ line_text at (name_of k) o (drop at code)) p out
+      → Steps front code at (Ok (Some (instr k o z))) old to (went_by p at to (at + z) On) out
   line_placed {p} {out} k o z e q =
-      let t = sym (line_of_lem (name_by name_text name_starts) at (drop at code) k o z e) ∙ own_names at (drop at code) in
+      let t = sym (line_of_lem name_of at (drop at code) k o z e) in
       record {
-        answers = ap (λ (x : Result ℕ Refusal). went_by x at to (at + z) true) (rw t at q.answers);
+        answers = ap (λ (x : Result ℕ Refusal). went_by x at to (at + z) On) (rw t at q.answers);
         cells = rw t at q.cells;
       }
 

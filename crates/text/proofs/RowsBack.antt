@@ -103,7 +103,7 @@ dash_none : read_all (split 44 dash) ≡ None
 unfolding split
 dash_none = refl
 
-some-none {ℓ} : {A : Type ℓ} (a : A) → None ≡ Some a → ⊥
+some-none : {A : Type 0} (a : A) → None ≡ Some a → ⊥
 some-none a e = clash cc
 
 pub operands_back : (zs : List ℤ) → read_operands (operand_column zs) ≡ Some zs

@@ -25,7 +25,7 @@ use Rattle.text.specs.Row.{Row, dash, whole_texts, operand_column, target_column
 use Rattle.text.specs.Reading.{only_if, positive, negative, read_whole, both, read_all, read_operands, present}
 use Rattle.text.specs.Reading.{read_target, row, read_fields, read_row}
 
-nothing {ℓ} : {A : Type ℓ} {a : A} → None ≡ Some a → ⊥
+nothing : {A : Type 0} {a : A} → None ≡ Some a → ⊥
 nothing {a} e = clash cc
 
 only : {A : Type 0} (b : Bool) (a r : A) → only_if b a ≡ Some r → (b ≡ true) × (a ≡ r)

@@ -2,7 +2,6 @@
 -- Assumes nothing.
 use Rattle.code.specs.Decode.{instr}
 use Rattle.code.specs.Decode.{Step}
-use Rattle.op.specs.Effects.{by}
 use Rattle.std.specs.Prelude.{Ok, Err, Some, None, Option}
 use mathlib.Core.Path.{◌≡◌, refl, sym, ap, ◌∙◌}
 use mathlib.Core.Bool.{Bool, true, false, cond}
@@ -13,24 +12,16 @@ use lib.Dec.{leb}
 use lib.ListN.{length, drop}
 use borrow.Author.Tests.{le-leb, lt-leb}
 use Rattle.base.proofs.Bools.{clash}
-use Rattle.op.specs.Names.{name_of, name_text, name_starts, name_by}
-use Rattle.op.specs.Opcodes.{table, last_opcode}
-use Rattle.op.specs.Shapes.{shape_of, operand_shape}
+use Rattle.op.specs.Names.{name_of}
+use Rattle.op.specs.Opcodes.{last_opcode}
 use Rattle.op.specs.declared.Operand.{Operand}
 use Rattle.op.specs.declared.Refusal.{Refusal}
 use Rattle.op.specs.declared.Refusal.TheVariants.{TooLarge}
-use Rattle.op.specs.declared.Shape.{Shape}
-use Rattle.op.proofs.Effected.{shape_is}
-use Rattle.op.proofs.Listed.{known_row}
-use Rattle.op.proofs.Named.{name_by_lem}
 use Rattle.code.specs.Decode.{decode}
 use Rattle.code.specs.Reading.{Spot, Read, before, stops_at, spot_at, instructions_in}
-use Rattle.code.proofs.Decoding.{decoded}
 use Rattle.code.proofs.Instructions.{read_from, reads_on, reads_end, reads_fault}
-use Rattle.text.specs.Fields.{line_text}
 use Rattle.text.specs.Listing.{most, header, fault_line, first_line, spot_line, spot_lines, stop_line, line_by, line_of}
 use Rattle.text.specs.Listing.{lines_of, listing_of, rest_of}
-use Rattle.text.proofs.Lining.{line_of_lem, fault_of, no_line}
 
 -- where a fault is, there is a byte
 pub faulted : (at : ℕ) (u : List ℕ) (r : Refusal) → decode last_opcode at u ≡ Err r → 0 < length u
@@ -99,19 +90,3 @@ module _ (code : List ℕ) (at : ℕ) (small : length code ≤ most) where
 pub rest_large : (code : List ℕ) (at : ℕ) → most < length code → rest_of code at ≡ []
 unfolding rest_of
 rest_large code at h = rw (lt-leb (length code) most h)
-
--- op's names are found in its own text
-pub known_below : (k : ℕ) (s : Shape) → shape_of k ≡ Ok s → k < length table
-known_below k s e = (known_row k).0 (shape_is k s e).0
-
-pub own_names : (at : ℕ) (u : List ℕ) → line_of (name_by name_text name_starts) at u ≡ line_of name_of at u
-own_names at u = by (decode last_opcode at u) refl
-  where
-    by : (s : Step) → decode last_opcode at u ≡ s → line_of (name_by name_text name_starts) at u ≡ line_of name_of at u
-    by (Ok (Some (instr k o z))) e =
-        let d = decoded last_opcode at u k o z e in
-        line_of_lem (name_by name_text name_starts) at u k o z e
-        ∙ ap (λ (n : List ℕ). line_text at n o u) (name_by_lem k (known_below k (operand_shape o) d.shape))
-        ∙ sym (line_of_lem name_of at u k o z e)
-    by (Ok None) e = no_line (name_by name_text name_starts) at u e ∙ sym (no_line name_of at u e)
-    by (Err r) e = fault_of (name_by name_text name_starts) at u r e ∙ sym (fault_of name_of at u r e)

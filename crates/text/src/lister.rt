@@ -1,41 +1,45 @@
 // Line by line through a code, as far as the lent text has room.
 ghost use Rattle.std.specs.Prelude.{◌≡◌, false, List, [], ◌∷◌, ◌++◌, ◌≤◌, length};
-ghost use Rattle.op.specs.Names.{name_text, name_starts};
 ghost use Rattle.text.specs.Lines.{depth_text, column_of};
-ghost use Rattle.text.specs.Inner.{went_by, Stepped, Steps, Lent, Told, Reading, Fills};
+ghost use Rattle.text.specs.Inner.{went_by, goes_on, Stepped, Steps, Lent, Told, Reading, Fills};
 ghost use Rattle.text.specs.Put.{Put};
 
 use crate::{lines, row, write};
 use code::{NO_DEPTH, Step};
-use op::{Operand, Refusal, names};
+use op::names::Names;
+use op::{Operand, Refusal};
 use reader::InstructionReader;
 
-// How far a listing is: the offset of the next line, the end of the text so far, whether there may be more lines, and
-// whether one was left for want of room.
-#[derive(Clone, Copy)]
+// Whether a listing goes on: there may be more lines, none is left, or one was left for want of room.
+#[derive(Clone, Copy, Debug, PartialEq, Eq)]
+pub enum Going {
+    On,
+    Ended,
+    Cut,
+}
+
+// How far a listing is: the offset of the next line, and the end of the text so far.
+#[derive(Clone, Copy, Debug, PartialEq, Eq)]
 pub struct Progress {
     pub at: usize,
     pub to: usize,
-    pub more: bool,
-    pub full: bool,
+    pub going: Going,
 }
 
 // How far it is behind what became of a line at `at`, which was to stand from `to` on.
-fn went(placed: Result<usize, Refusal>, at: usize, to: usize, next: usize, more: bool) -> Progress
-    ensures { result ≡ went_by placed at to next more }
+fn went(placed: Result<usize, Refusal>, at: usize, to: usize, next: usize, going: Going) -> Progress
+    ensures { result ≡ went_by placed at to next going }
 {
     match placed {
         Ok(end) => Progress {
             at: next,
             to: end,
-            more,
-            full: false,
+            going,
         },
         Err(_) => Progress {
             at,
             to,
-            more: false,
-            full: true,
+            going: Going::Cut,
         },
     }
 }
@@ -72,12 +76,11 @@ fn end_line(code: &[u8], at: usize, front: &[u8], out: &mut [u8], to: usize) -> 
         return Progress {
             at,
             to,
-            more: false,
-            full: false,
+            going: Going::Ended,
         };
     }
     let placed = lines::line(code, at, Operand::None, front, b"end", out, to);
-    went(placed, at, to, at + 1, false)
+    went(placed, at, to, at + 1, Going::Ended)
 }
 
 // The line of a step that was read at an offset, behind a column.
@@ -86,12 +89,11 @@ fn step_line(
     at: usize,
     step: Step,
     front: &[u8],
-    texts: &[u8],
-    starts: &[usize],
+    names: &Names,
     out: &mut [u8],
     to: usize,
 ) -> Progress
-    requires { Reading code.now at step texts.now starts.now × Stepped at front.now out.old to }
+    requires { Reading code.now at step × Stepped at front.now out.old to }
     ensures { Steps front.now code.now at step out.old to result out.new }
 {
     match step {
@@ -99,13 +101,13 @@ fn step_line(
             let Some(instr) = found else {
                 return end_line(code, at, front, out, to);
             };
-            let name = names::of_opcode(instr.opcode, texts, starts);
+            let name = names.of(instr.opcode);
             let placed = lines::line(code, at, instr.operand, front, name, out, to);
-            went(placed, at, to, at + instr.size, true)
+            went(placed, at, to, at + instr.size, Going::On)
         }
         Err(refusal) => {
             let placed = lines::fault(at, refusal, out, to);
-            went(placed, at, to, code.len() + 1, false)
+            went(placed, at, to, code.len() + 1, Going::Ended)
         }
     }
 }
@@ -116,52 +118,40 @@ fn put_line(
     at: usize,
     step: Step,
     depths: &[u32],
-    texts: &[u8],
-    starts: &[usize],
+    names: &Names,
     out: &mut [u8],
     to: usize,
 ) -> Progress
-    requires { Reading code.now at step texts.now starts.now × Lent code.now depths.now out.old to }
+    requires { Reading code.now at step × Lent code.now depths.now out.old to }
     ensures { Told depths.now code.now at out.old to result out.new }
 {
     let mut cells = [0u8; 16];
     let n = column(depths, at, &mut cells);
-    step_line(code, at, step, &cells[..n], texts, starts, out, to)
+    step_line(code, at, step, &cells[..n], names, out, to)
 }
 
 // As many lines as fit, from the offset `at` on, into the text from `to` on. Each instruction is read once.
 pub fn fill(
     code: &[u8],
     depths: &[u32],
-    texts: &[u8],
-    starts: &[usize],
+    names: &Names,
     out: &mut [u8],
     at: usize,
     to: usize,
 ) -> Progress
-    requires { (texts.now ≡ name_text) × (starts.now ≡ name_starts) × Lent code.now depths.now out.old to }
+    requires { Lent code.now depths.now out.old to }
     ensures { Fills depths.now code.now at out.old to result out.new
-        × (result.more ≡ false) }
+        × (goes_on result.going ≡ false) }
 {
     let mut reader = InstructionReader::new(code, at);
     let mut p = Progress {
         at,
         to,
-        more: true,
-        full: false,
+        going: Going::On,
     };
-    while p.more {
+    while p.going == Going::On {
         let step = reader.here();
-        p = put_line(
-            reader.code,
-            reader.at,
-            step,
-            depths,
-            texts,
-            starts,
-            out,
-            p.to,
-        );
+        p = put_line(reader.code, reader.at, step, depths, names, out, p.to);
         reader = reader.behind(step);
     }
     p

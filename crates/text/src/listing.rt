@@ -6,17 +6,18 @@ ghost use Rattle.text.specs.Lines.{plain_lines, ListsChecked};
 ghost use Rattle.text.specs.Listing.{most};
 ghost use Rattle.text.specs.Inner.{Lent, Goes, said_by};
 
-use crate::lister::Progress;
+use crate::lister::{Going, Progress};
 use crate::{Part, lines, lister, put};
 use code::CODE_LIMIT;
-use op::{Refusal, Table, names};
+use op::names::Names;
+use op::{Refusal, Table};
 
 // What is answered where the lines end.
 fn said(p: Progress) -> Result<Part, Refusal>
     requires { p.at < 18446744073709551615 }
     ensures { result ≡ said_by p }
 {
-    if p.full && p.to == 0 {
+    if p.going == Going::Cut && p.to == 0 {
         return Err(Refusal::Full(Table::Text));
     }
     Ok(Part {
@@ -30,10 +31,8 @@ fn go_on(code: &[u8], depths: &[u32], out: &mut [u8], at: usize, to: usize) -> R
     requires { Lent code.now depths.now out.old to × (at < 18446744073709551615) }
     ensures { Goes depths.now code.now at out.old to result out.new }
 {
-    let texts = names::text();
-    let starts = names::starts();
-    let p = lister::fill(code, depths, &texts, &starts, out, at, to);
-    said(p)
+    let names = Names::new();
+    said(lister::fill(code, depths, &names, out, at, to))
 }
 
 // How much of a code of so many bytes is listed: of one that is too long nothing.

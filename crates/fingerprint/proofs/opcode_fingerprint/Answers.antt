@@ -15,7 +15,7 @@ pub loop-opcode-preserved : goal.loop-opcode-preserved
 loop-opcode-preserved c =
     let k = c.loop-opcode.opcode in
     ap (λ (h : ℕ). hash_from h (from (k + 1))) c.opcode_on-hash.ensures
-    ∙ hash_opcode c.loop-opcode.hash k _ _ c.text-texts.ensures c.starts-starts.ensures (omega arith)
+    ∙ hash_opcode c.loop-opcode.hash k (omega arith)
     ∙ c.loop-opcode.invariant
 
 pub returns : goal.returns

@@ -2,15 +2,15 @@
 -- measure is the turns left.
 use mathlib.Core.Path.{◌≡◌}
 use mathlib.Core.Bool.{true}
-use Rattle.text.specs.Inner.{turns, Fills}
+use Rattle.text.specs.Inner.{turns, goes_on, Fills}
 use Rattle.text.proofs.lister.fill.Given as goal
 
-abbrev pub invariant-loop-p : goal.invariant-loop-p
-invariant-loop-p l = record {
+abbrev pub invariant-loop-reader : goal.invariant-loop-reader
+invariant-loop-reader l = record {
   same : l.reader.code.now ≡ l.code;
-  there : l.p.more ≡ true → l.reader.at ≡ l.p.at;
+  there : goes_on l.p.going ≡ true → l.reader.at ≡ l.p.at;
   fills : Fills l.depths l.code l.at l.fn.out l.to l.p l.out;
 }
 
-abbrev pub decreases-loop-p : goal.decreases-loop-p
-decreases-loop-p l = turns l.code l.p
+abbrev pub decreases-loop-reader : goal.decreases-loop-reader
+decreases-loop-reader l = turns l.code l.p

@@ -8,10 +8,10 @@ use Rattle.text.proofs.lister.went.Goals as goal
 
 pub returns-in-Ok : goal.returns-in-Ok
 returns-in-Ok c =
-    sym (ap (λ (p : Result ℕ Refusal). went_by p c.args.at c.args.to c.args.next c.args.more)
+    sym (ap (λ (p : Result ℕ Refusal). went_by p c.args.at c.args.to c.args.next c.args.going)
     c.in-Ok.is)
 
 pub returns-in-Err : goal.returns-in-Err
 returns-in-Err c =
-    sym (ap (λ (p : Result ℕ Refusal). went_by p c.args.at c.args.to c.args.next c.args.more)
+    sym (ap (λ (p : Result ℕ Refusal). went_by p c.args.at c.args.to c.args.next c.args.going)
     c.in-Err.is)

@@ -5,7 +5,7 @@ use Rattle.text.proofs.Progressing.{goes, near}
 use Rattle.text.proofs.listing.go_on.Goals as goal
 
 pub said-requires : goal.said-requires
-said-requires c = near 18446744073709551615 c.fill-p.ensures.0 c.requires.1 (omega (arith, c.requires.0.small))
+said-requires c = near 18446744073709551615 c.fill.ensures.0 c.requires.1 (omega (arith, c.requires.0.small))
 
 pub returns : goal.returns
-returns c = rw c.said.ensures (goes c.fill-p.ensures.0 c.fill-p.ensures.1)
+returns c = rw c.said.ensures (goes c.fill.ensures.0 c.fill.ensures.1)
