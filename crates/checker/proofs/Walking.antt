@@ -49,7 +49,7 @@ module _ {last : ℕ} {s : List ℕ} {at : ℕ} where
   }
 
   sized_by : (x : Step) → decode last at (drop at s) ≡ x → Sized last s at (size_in x)
-  sized_by (Ok (Some (instr k o z))) e = sized k o z e
+  sized_by (Ok (Some i)) e = sized i.opcode i.operand i.size e
   sized_by (Ok None) e = sized_end e
   sized_by (Err q) e = sized_fault q e
 
@@ -123,7 +123,8 @@ module _ {last : ℕ} {s w : List ℕ} {at : ℕ} (A : Marking last s w at) wher
 
   pub walked : Sized last s at 0 → (x : Step) → decode last at (drop at s) ≡ x
       → Walked last s (set w at place_mark) (stop_of x)
-  walked Z (Ok (Some (instr k o z))) e = absurd (Z.none refl _ (record { is = sym (flow_op last at s k o z e) }))
+  walked Z (Ok (Some i)) e =
+      absurd (Z.none refl _ (record { is = sym (flow_op last at s i.opcode i.operand i.size e) }))
   walked Z (Ok None) e = whole (sym (flow_end last at s e))
   walked Z (Err q) e = faulty_at A.here (sym (flow_refused last at s q e))
 
