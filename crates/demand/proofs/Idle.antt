@@ -43,10 +43,10 @@ pub guard_never : (t : Bool) (r : Refusal) (o w : ℕ) (a : Option ℕ) → patc
 guard_never true r o w a e = clash cc
 guard_never false r o w a e = clash cc
 
-patch_never : {B : Type 0} {r : Refusal} → Err r ≡ (Ok None) → B
+patch_never : {B : Type 0} {r : Refusal} → ◌≡◌ {A = PatchDecision} (Err r) (Ok None) → B
 patch_never e = clash cc
 
-patch_busy : (o w : ℕ) (a : Option ℕ) → Ok (Some (patching a w o)) ≡ (Ok None) → ⊥
+patch_busy : (o w : ℕ) (a : Option ℕ) → ◌≡◌ {A = PatchDecision} (Ok (Some (patching a w o))) (Ok None) → ⊥
 patch_busy o w a e = clash cc
 
 patch_guard_idle : (t : Bool) (r : Refusal) (p : PatchDecision) → patch_guard t r p ≡ (Ok None) → p ≡ (Ok None)

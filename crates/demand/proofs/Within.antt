@@ -61,7 +61,7 @@ module _ (b : Builder) where
       go : (p : Decision) → (after_jump (commit_jump p b k code locs marks).answer b).starts ≡ b.starts
       go (Ok None) = refl
       go (Err r) = refl
-      go (Ok (Some (planned a w s))) = refl
+      go (Ok (Some plan)) = refl
 
   pub patch_starts : (l : JumpLabel) (code marks : List ℕ)
       → (after (patch_jump_of b l code marks).answer b).starts ≡ b.starts
@@ -71,7 +71,7 @@ module _ (b : Builder) where
       go : (p : PatchDecision) → (after (commit_patch p b l code marks).answer b).starts ≡ b.starts
       go (Ok None) = refl
       go (Err r) = refl
-      go (Ok (Some (patching a w o))) = refl
+      go (Ok (Some plan)) = refl
 
   -- a target keeps both counts
   abbrev TargetKeeps : TargetOutcome → Type 0
