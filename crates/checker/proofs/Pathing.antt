@@ -125,7 +125,7 @@ module _ (last : ℕ) (s : List ℕ) where
           ap (λ (x : Instr). spot_at last o (drop o s) x.opcode x.operand x.size) met
           ∙ ap (λ (x : ℕ). spot_at last x (drop x s) k p z) i
 
-      at_end_lem : (o at k : ℕ) (p : Operand) (z : ℕ) → o ≡ at → decode last at (drop at s) ≡ (Ok None)
+      at_end_lem : (o at k : ℕ) (p : Operand) (z : ℕ) → o ≡ at → decode last at (drop at s) ≡ Ok None
           → decode last o (drop o s) ≡ Ok (Some (instr k p z)) → ⊥
       at_end_lem o at k p z i e e' = clash cc
 

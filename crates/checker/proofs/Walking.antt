@@ -42,7 +42,7 @@ module _ {last : ℕ} {s : List ℕ} {at : ℕ} where
     none = λ y f h. stands_no_fault h (sym (flow_refused last at s q e));
   }
 
-  sized_end : decode last at (drop at s) ≡ (Ok None) → Sized last s at 0
+  sized_end : decode last at (drop at s) ≡ Ok None → Sized last s at 0
   sized_end e = record {
     stands = λ n. absurd (n refl);
     none = λ y f h. omega (arith, stands_size h, ends_over last s at (sym (flow_end last at s e)));
@@ -111,7 +111,7 @@ module _ {last : ℕ} {s w : List ℕ} {at : ℕ} (A : Marking last s w at) wher
   }
 
   -- where the walk comes to the end it met no fault, and marked all places
-  whole : flow_of last at (drop at s) ≡ (Ok None) → NoFault last s × Marked last s (set w at place_mark)
+  whole : flow_of last at (drop at s) ≡ Ok None → NoFault last s × Marked last s (set w at place_mark)
   whole e = (
     whole_at A.here e,
     record {

@@ -1,8 +1,6 @@
 -- What calls keep: a refused call changes no table, and calls that emit nothing leave what the view looks at.
 -- Assumes nothing.
-use Rattle.builder.specs.Patch.{patching}
 use Rattle.builder.specs.Patch.{PatchDecision}
-use Rattle.builder.specs.Plan.{planned}
 use Rattle.builder.specs.Plan.{Decision}
 use Rattle.std.specs.Prelude.{Ok, Err, Some, None, Option, Result}
 use mathlib.Core.Path.{◌≡◌, refl, ap}
@@ -227,8 +225,8 @@ module _ (b : Builder) (value : ℕ) (cells : List ℕ) where
   abbrev ConstSame : AddedKept → Type 0
   ConstSame k = (n : Builder) (i : ℕ) → k.answer ≡ Ok (n, i) → (n.core ≡ b.core) × (n.starts ≡ b.starts)
 
-  made_same : (m n : Builder) (j i : ℕ) → m.core ≡ b.core → m.starts ≡ b.starts → ◌≡◌ {A = Result (Builder × ℕ) Refusal} (Ok (m, j)) (Ok (n, i))
-      → (n.core ≡ b.core) × (n.starts ≡ b.starts)
+  made_same : (m n : Builder) (j i : ℕ) → m.core ≡ b.core → m.starts ≡ b.starts
+      → ◌≡◌ {A = Result (Builder × ℕ) Refusal} (Ok (m, j)) (Ok (n, i)) → (n.core ≡ b.core) × (n.starts ≡ b.starts)
   made_same m n j i p q e =
       let both : ◌≡◌ {A = Builder × ℕ} (m, j) (n, i) = cc in
       let h : m ≡ n = ap (λ (x : Builder × ℕ). x.0) both in

@@ -1,8 +1,6 @@
 -- How each call moves the view that demand 3 looks at: from the models alone.
 -- Assumes nothing.
-use Rattle.builder.specs.Patch.{patching}
 use Rattle.builder.specs.Patch.{PatchDecision}
-use Rattle.builder.specs.Plan.{planned}
 use Rattle.builder.specs.Plan.{Decision}
 use Rattle.builder.specs.declared.Location.{Location}
 use Rattle.std.specs.Prelude.{Ok, Err, Some, None, Option, Result}
@@ -73,9 +71,11 @@ module _ (b : Builder) (k name : ℕ) (o : Operand) (ns code locs marks starts :
   emit_by (Ok None) e = dead_emit (plan_idle b.core b.location k name o (length ns) (length code) (length locs) e)
   emit_by (Err r) e = refused
   emit_by (Ok (Some plan)) e =
-      let g = plan_goes b.core b.location k name o (length ns) (length code) (length locs) plan.size plan.word plan.after e in
+      let g = plan_goes b.core b.location k name o (length ns) (length code) (length locs)
+      plan.size plan.word plan.after e in
       rw (
-        code_grows b.core b.location g.here k o ns 0 code (length locs) plan.size plan.after plan.word g.sound.code g.goes,
+        code_grows b.core b.location g.here k o ns 0 code (length locs)
+            plan.size plan.after plan.word g.sound.code g.goes,
         g.goes.depth,
       )
       (emitted g.here g.goes.next g.live g.goes.count g.goes.few g.goes.falls)
@@ -106,9 +106,11 @@ module _ (b : Builder) (k : ℕ) (code locs marks starts : List ℕ) where
   jump_by_lem (Err r) e = refused
   jump_by_lem (Ok (Some plan)) e =
       let c = b.core in
-      let g = forward_goes c b.location k (length code) (length locs) (length marks) plan.size plan.word plan.after e in
+      let g = forward_goes c b.location k (length code) (length locs) (length marks)
+      plan.size plan.word plan.after e in
       rw (
-        code_grows c b.location g.here k unpatched [] plan.word code (length locs) plan.size plan.after plan.word g.sound.code g.goes,
+        code_grows c b.location g.here k unpatched [] plan.word code (length locs)
+            plan.size plan.after plan.word g.sound.code g.goes,
         g.goes.depth,
         marks_push c.marks open_kind c.code plan.word marks (omega (arith, g.mark)),
         open_of c.code plan.word,
@@ -135,10 +137,12 @@ module _ (b : Builder) (k : ℕ) (t : JumpTarget) (code locs marks starts : List
   to_by (Err r) e = refused
   to_by (Ok (Some plan)) e =
       let c = b.core in
-      let g = to_goes c b.location k t (length code) (length locs) marks plan.size plan.word plan.after e in
+      let g = to_goes c b.location k t (length code) (length locs) marks
+      plan.size plan.word plan.after e in
       let u = mark_used c.marks marks g.row (Target g.offset g.depth) g.mark (λ n. clash cc) in
       rw (
-        code_grows c b.location g.here k (jump_by plan.word) [] plan.word code (length locs) plan.size plan.after plan.word g.sound.code g.goes,
+        code_grows c b.location g.here k (jump_by plan.word) [] plan.word code (length locs)
+            plan.size plan.after plan.word g.sound.code g.goes,
         g.goes.depth,
       )
       (jumped_at (view_of b code marks starts) k g.here g.goes.next g.row g.offset g.depth c.code plan.word t
@@ -165,7 +169,8 @@ module _ (b : Builder) (code marks starts : List ℕ) where
       (commit_patch p b L.Dead code marks).marks starts)
   dead_by (Ok None) e = dead_patch
   dead_by (Err r) e = refused
-  dead_by (Ok (Some plan)) e = absurd (guard_never (markable b.core (length code) (length marks)) _ plan.offset plan.word plan.after e)
+  dead_by (Ok (Some plan)) e =
+      absurd (guard_never (markable b.core (length code) (length marks)) _ plan.offset plan.word plan.after e)
 
   module _ (i : ℕ) where
     row_by : (p : PatchDecision) → markable b.core (length code) (length marks) ≡ true
@@ -181,7 +186,10 @@ module _ (b : Builder) (code marks starts : List ℕ) where
         let h = markable_true c (length code) (length marks) sd in
         let g = patch_goes c plan.offset plan.word plan.after (mark_in c.marks marks i) e in
         let u = mark_used c.marks marks i (Open plan.offset g.depth) g.mark (λ n. clash cc) in
-        rw (code_patch code c.code plan.offset plan.word g.place h.code, marks_patch i plan.offset g.depth marks u.1 c.marks u.0 (omega (arith, h.rows)))
+        rw (
+          code_patch code c.code plan.offset plan.word g.place h.code,
+          marks_patch i plan.offset g.depth marks u.1 c.marks u.0 (omega (arith, h.rows)),
+        )
         (patched_at (view_of b code marks starts) i plan.offset g.depth c.code plan.word plan.after
         (g.after ∙ revived_live c.depth g.depth g.meet) (length-take-le c.code code h.code)
         g.word

@@ -1,8 +1,6 @@
 -- The used code and the used starts stay within their lent tables, whatever is called.
 -- Assumes nothing.
-use Rattle.builder.specs.Patch.{patching}
 use Rattle.builder.specs.Patch.{PatchDecision}
-use Rattle.builder.specs.Plan.{planned}
 use Rattle.builder.specs.Plan.{Decision}
 use Rattle.builder.specs.declared.Core.{Core}
 use Rattle.op.specs.declared.Refusal.{Refusal}
