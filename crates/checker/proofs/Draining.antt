@@ -51,7 +51,7 @@ module _ {last : ℕ} {s : List ℕ} {at : ℕ} {x : Flowing} (is : x ≡ flow_o
   pub flow_stands : {f : Flow} → x ≡ Ok (Some f) → Stands last s at f
   flow_stands e = record { is = sym is ∙ e }
 
-  pub flow_end : x ≡ (Ok None) → (f : Flow) → Stands last s at f → ⊥
+  pub flow_end : x ≡ Ok None → (f : Flow) → Stands last s at f → ⊥
   flow_end e f h = let i = h.is in clash cc
 
   pub flow_fault : {q : Refusal} → x ≡ Err q → (f : Flow) → Stands last s at f → ⊥

@@ -2,6 +2,7 @@
 -- greatest depth is enough, and some path needs it.
 -- Assumes nothing.
 use Rattle.code.specs.Decode.{instr}
+use Rattle.code.specs.declared.Instr.{Instr}
 use Rattle.op.specs.declared.Effect.{Effect}
 use Rattle.std.specs.Prelude.{Ok, Err, Some, None, Result, Option}
 use mathlib.Core.Path.{◌≡◌, refl, sym, ap, subst, ◌∙◌}
@@ -119,9 +120,12 @@ module _ (last : ℕ) (s : List ℕ) where
       same_spot : (o at k k' : ℕ) (p p' : Operand) (z z' : ℕ) → o ≡ at → decode last at (drop at s) ≡ Ok (Some (instr k p z))
           → decode last o (drop o s) ≡ Ok (Some (instr k' p' z'))
           → spot_at last o (drop o s) k' p' z' ≡ spot_at last at (drop at s) k p z
-      same_spot o at k k' p p' z z' i e e' = cc
+      same_spot o at k k' p p' z z' i e e' =
+          let met : instr k' p' z' ≡ instr k p z = cc in
+          ap (λ (x : Instr). spot_at last o (drop o s) x.opcode x.operand x.size) met
+          ∙ ap (λ (x : ℕ). spot_at last x (drop x s) k p z) i
 
-      at_end_lem : (o at k : ℕ) (p : Operand) (z : ℕ) → o ≡ at → decode last at (drop at s) ≡ (Ok None)
+      at_end_lem : (o at k : ℕ) (p : Operand) (z : ℕ) → o ≡ at → decode last at (drop at s) ≡ Ok None
           → decode last o (drop o s) ≡ Ok (Some (instr k p z)) → ⊥
       at_end_lem o at k p z i e e' = clash cc
 

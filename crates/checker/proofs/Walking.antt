@@ -42,14 +42,14 @@ module _ {last : ℕ} {s : List ℕ} {at : ℕ} where
     none = λ y f h. stands_no_fault h (sym (flow_refused last at s q e));
   }
 
-  sized_end : decode last at (drop at s) ≡ (Ok None) → Sized last s at 0
+  sized_end : decode last at (drop at s) ≡ Ok None → Sized last s at 0
   sized_end e = record {
     stands = λ n. absurd (n refl);
     none = λ y f h. omega (arith, stands_size h, ends_over last s at (sym (flow_end last at s e)));
   }
 
   sized_by : (x : Step) → decode last at (drop at s) ≡ x → Sized last s at (size_in x)
-  sized_by (Ok (Some (instr k o z))) e = sized k o z e
+  sized_by (Ok (Some i)) e = sized i.opcode i.operand i.size e
   sized_by (Ok None) e = sized_end e
   sized_by (Err q) e = sized_fault q e
 
@@ -111,7 +111,7 @@ module _ {last : ℕ} {s w : List ℕ} {at : ℕ} (A : Marking last s w at) wher
   }
 
   -- where the walk comes to the end it met no fault, and marked all places
-  whole : flow_of last at (drop at s) ≡ (Ok None) → NoFault last s × Marked last s (set w at place_mark)
+  whole : flow_of last at (drop at s) ≡ Ok None → NoFault last s × Marked last s (set w at place_mark)
   whole e = (
     whole_at A.here e,
     record {
@@ -123,7 +123,8 @@ module _ {last : ℕ} {s w : List ℕ} {at : ℕ} (A : Marking last s w at) wher
 
   pub walked : Sized last s at 0 → (x : Step) → decode last at (drop at s) ≡ x
       → Walked last s (set w at place_mark) (stop_of x)
-  walked Z (Ok (Some (instr k o z))) e = absurd (Z.none refl _ (record { is = sym (flow_op last at s k o z e) }))
+  walked Z (Ok (Some i)) e =
+      absurd (Z.none refl _ (record { is = sym (flow_op last at s i.opcode i.operand i.size e) }))
   walked Z (Ok None) e = whole (sym (flow_end last at s e))
   walked Z (Err q) e = faulty_at A.here (sym (flow_refused last at s q e))
 

@@ -48,11 +48,13 @@ fn expand(
         cells.new work.old x top at y) result }
 {
     let depth = cells[at];
-    match flows::flow_at(code, at) {
-        Ok(Some(flow)) => Visit { at, depth, flow }.move_on(cells, work, top),
-        Ok(None) => Ok(Passed { top, next: None }),
-        Err(_) => Ok(Passed { top, next: None }),
-    }
+    let Ok(found) = flows::flow_at(code, at) else {
+        return Ok(Passed { top, next: None });
+    };
+    let Some(flow) = found else {
+        return Ok(Passed { top, next: None });
+    };
+    Visit { at, depth, flow }.move_on(cells, work, top)
 }
 
 // Follows the code from a place in hand, as it falls through, to where it does not or a depth stands already; `taken`

@@ -7,6 +7,7 @@ ghost use Rattle.checker.specs.Inner.{place_mark, Ready, in_hand, Passes, Asked,
 
 use crate::{Reason, walks};
 use code::{Flow, Goal, WORD_MAX};
+use op::Effect;
 
 // An instruction at an offset that has a depth.
 #[derive(Clone, Copy)]
@@ -107,7 +108,7 @@ impl Visit {
         t: usize,
     ) -> Result<usize, Reason>
         requires { Ready cells.old work.old top × (self.flow.goal ≡ To t) }
-        ensures { (Result (Builder × JumpLabel) Refusal) self.flow cells.old cells.new work.old work.new
+        ensures { Jumped self.flow cells.old cells.new work.old work.new
             top self.at self.depth result }
     {
         let Visit { at, depth, flow } = self;
@@ -121,7 +122,7 @@ impl Visit {
     // The same, if the instruction is a jump.
     fn leap(self, cells: &mut [u32], work: &mut [u32], top: usize) -> Result<usize, Reason>
         requires { Ready cells.old work.old top }
-        ensures { (Result (Builder × JumpLabel) Refusal) self.flow cells.old cells.new work.old work.new
+        ensures { Jumped self.flow cells.old cells.new work.old work.new
             top self.at self.depth result }
     {
         let Visit { at, depth, flow } = self;

@@ -21,11 +21,7 @@ pub struct Start {
 fn stop(code: &[u8], at: usize) -> Result<(), Refusal>
     ensures { result ≡ stop_of (decode last_opcode at (drop at code.now)) }
 {
-    match decoder::step_at(code, at) {
-        Ok(Some(Instr { opcode: _, operand: _, size: _ })) => Ok(()),
-        Ok(None) => Ok(()),
-        Err(refusal) => Err(refusal),
-    }
+    decoder::step_at(code, at).map(|_| ())
 }
 
 // Marks each place in cells of zeros, up to the first fault, if there is one. The steps are of many sizes, so no `for`

@@ -5,6 +5,7 @@ use Rattle.std.specs.Prelude.{Some, None, Option}
 use mathlib.Core.Path.{◌≡◌}
 use mathlib.Core.Bool.{Bool, true, false}
 use mathlib.Core.List.{List, [], ◌∷◌, ◌++◌, map, Memᴰ as Mem}
+use mathlib.Core.Option.{some as found}
 use Prim.Native.Nat.{ℕ, ◌+◌, ◌≤◌}
 use lib.ListN.{set, get_elem?}
 use Rattle.builder.specs.Marks.{near}
@@ -96,10 +97,10 @@ pub record Good (I : Isa) (L : Laws I) (b : Book I) : Type 0 where
   pub tips : (d : ℕ) → b.cur ≡ Some d → Der I b b.len d × (d ≤ 65535)
   pub begins : (o d : ℕ) → Mem (o, d) b.starts → Dep I b o d
   pub opens : (r : Row I) (j : I.Jump) (k : ℕ) → Mem r b.rows → r.what ≡ leap j (waits k)
-      → (d : ℕ) × (get_elem? b.marks k ≡ Some (Open r.offset d)) × (I.taken j r.depth ≡ Some d)
-  pub labels : (k o d : ℕ) → get_elem? b.marks k ≡ Some (Open o d)
+      → (d : ℕ) × (get_elem? b.marks k ≡ found (Open r.offset d)) × (I.taken j r.depth ≡ Some d)
+  pub labels : (k o d : ℕ) → get_elem? b.marks k ≡ found (Open o d)
       → (r : Row I) × (j : I.Jump) × Mem r b.rows × (r.what ≡ leap j (waits k)) × (r.offset ≡ o)
-  pub spots : (k o d : ℕ) → get_elem? b.marks k ≡ Some (Target o d) → Dep I b o d
+  pub spots : (k o d : ℕ) → get_elem? b.marks k ≡ found (Target o d) → Dep I b o d
 
 -- what every event keeps: rows stay where they are with their edges, starts stay, depths stay
 pub record Moves (I : Isa) (b c : Book I) : Type 0 where

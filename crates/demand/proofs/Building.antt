@@ -1,11 +1,12 @@
 -- What an accepted build says: the code is within its limit, and no label is open, so no jump waits.
 -- Assumes nothing.
 use Rattle.op.specs.declared.Refusal.{Refusal}
-use Rattle.std.specs.Prelude.{Ok, Err, Result, Some}
+use Rattle.std.specs.Prelude.{Ok, Err, Result}
 use mathlib.Core.Path.{◌≡◌, refl, sym, ap, ◌∙◌}
 use mathlib.Core.Bool.{Bool, true, false, cond, ◌&&◌, ◌||◌}
 use mathlib.Core.Logic.{◌⊎◌, inl, inr}
 use mathlib.Core.List.{List, [], ◌∷◌}
+use mathlib.Core.Option.{some as found}
 use Prim.Native.Nat.{ℕ, zero, suc, ◌+◌, ◌*◌, ◌≤◌}
 use lib.Dec.{leb, eqb}
 use lib.ListN.{length, get_or, get_elem?}
@@ -90,21 +91,21 @@ open_kind_lem kind x y o d e = go (eqb kind 1) (eqb kind 2) (eqb kind 3) e
     go false false true e = clash cc
     go false false false e = clash cc
 
-pub open_any : (n : ℕ) (marks : List ℕ) (k o d : ℕ) → get_elem? (tab n (mark_at marks)) k ≡ Some (Open o d)
+pub open_any : (n : ℕ) (marks : List ℕ) (k o d : ℕ) → get_elem? (tab n (mark_at marks)) k ≡ found (Open o d)
     → any_open n marks ≡ true
 unfolding tab any_open
 open_any zero marks k o d e = clash cc
 open_any (suc n) marks k o d e = go (nth_cases (tab n (mark_at marks)) (mark_at marks n ∷ []) k e)
-    (λ (q : get_elem? (tab n (mark_at marks)) k ≡ Some (Open o d)). open_any n marks k o d q)
+    (λ (q : get_elem? (tab n (mark_at marks)) k ≡ found (Open o d)). open_any n marks k o d q)
   where
-    last : (i : ℕ) → get_elem? (mark_at marks n ∷ []) i ≡ Some (Open o d)
+    last : (i : ℕ) → get_elem? (mark_at marks n ∷ []) i ≡ found (Open o d)
         → eqb (get_or marks (n * mark_cells) 0) open_kind ≡ true
     last zero q = let m : mark_at marks n ≡ Open o d = cc in open_kind_lem (get_or marks (n * mark_cells) 0) (get_or marks (n * mark_cells + 1) 0) (get_or marks (n * mark_cells + 2) 0) o d m
     last (suc i) q = clash cc
 
-    go : (get_elem? (tab n (mark_at marks)) k ≡ Some (Open o d)) ⊎
-        ((i : ℕ) × (k ≡ length (tab n (mark_at marks)) + i) × (get_elem? (mark_at marks n ∷ []) i ≡ Some (Open o d)))
-        → (get_elem? (tab n (mark_at marks)) k ≡ Some (Open o d) → any_open n marks ≡ true)
+    go : (get_elem? (tab n (mark_at marks)) k ≡ found (Open o d)) ⊎
+        ((i : ℕ) × (k ≡ length (tab n (mark_at marks)) + i) × (get_elem? (mark_at marks n ∷ []) i ≡ found (Open o d)))
+        → (get_elem? (tab n (mark_at marks)) k ≡ found (Open o d) → any_open n marks ≡ true)
         → (any_open n marks || eqb (get_or marks (n * mark_cells) 0) open_kind) ≡ true
     go (inl q) ih = rw (ih q) refl
     go (inr q) ih = rw (last q.0 q.2) (or_true (any_open n marks))

@@ -5,6 +5,7 @@ use mathlib.Core.Path.{◌≡◌, refl, sym, ap}
 use mathlib.Core.Bool.{Bool, true, false}
 use mathlib.Core.List.Memᴰ.{head as mhead}
 use mathlib.Core.List.{List, [], ◌∷◌, ◌++◌, Memᴰ as Mem}
+use mathlib.Core.Option.{some as found}
 use mathlib.Core.List.Memᴰ
 use Prim.Native.Nat.{ℕ, zero, suc, ◌+◌, ◌≤◌}
 use native.Mathlib.Omega.{arith}
@@ -32,10 +33,10 @@ net_small I L (leap j g) d e h = L.jnet_small j d e h
 -- no mark, or the one of an open label
 abbrev pub Marked : (I : Isa) → Book I → ℕ → What I → List Mark → Type 0
 Marked I b d w ms = ((j : I.Jump) (k : ℕ) → w ≡ leap j (waits k)
-    → (t : ℕ) × (get_elem? (b.marks ++ ms) k ≡ Some (Open b.len t)) × (I.taken j d ≡ Some t))
-    × ((i o t : ℕ) → get_elem? ms i ≡ Some (Open o t)
+    → (t : ℕ) × (get_elem? (b.marks ++ ms) k ≡ found (Open b.len t)) × (I.taken j d ≡ Some t))
+    × ((i o t : ℕ) → get_elem? ms i ≡ found (Open o t)
     → (j : I.Jump) × (w ≡ leap j (waits (length b.marks + i))) × (b.len ≡ o))
-    × ((i o t : ℕ) → get_elem? ms i ≡ Some (Target o t) → ⊥)
+    × ((i o t : ℕ) → get_elem? ms i ≡ found (Target o t) → ⊥)
 
 module _ (I : Isa) (L : Laws I) (b : Book I) (g : Good I L b) (d : ℕ) (l : b.cur ≡ Some d) where
   pub push_good : (w : What I) (ms : List Mark) → WValid I L b.len w → (e : ℕ) → net I w d ≡ Some e
@@ -114,7 +115,7 @@ module _ (I : Isa) (L : Laws I) (b : Book I) (g : Good I L b) (d : ℕ) (l : b.c
       at' : Dep I b o t
       at' = at
 
-  one_mark : (a m : Mark) (i : ℕ) → get_elem? (a ∷ []) i ≡ Some m → (i ≡ 0) × (m ≡ a)
+  one_mark : (a m : Mark) (i : ℕ) → get_elem? (a ∷ []) i ≡ found m → (i ≡ 0) × (m ≡ a)
   one_mark a m zero h = (refl, cc)
   one_mark a m (suc i) h = clash cc
 

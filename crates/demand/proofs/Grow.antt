@@ -4,6 +4,7 @@ use Rattle.std.specs.Prelude.{Some, Option}
 use mathlib.Core.Path.{◌≡◌, refl}
 use mathlib.Core.Logic.{◌⊎◌, inl, inr}
 use mathlib.Core.List.{List, [], ◌∷◌, ◌++◌, Memᴰ as Mem}
+use mathlib.Core.Option.{some as found}
 use mathlib.Core.List.Memᴰ
 use Prim.Native.Nat.{ℕ, ◌+◌, ◌≤◌}
 use lib.ListN.{length, get_elem?}
@@ -29,10 +30,10 @@ pub record Grows (I : Isa) (L : Laws I) (b c : Book I) (xs : List (Row I)) (ss :
   pub tips : (d : ℕ) → c.cur ≡ Some d → Der I c c.len d × (d ≤ 65535)
   pub begins : (o d : ℕ) → Mem (o, d) ss → Dep I c o d
   pub opens : (r : Row I) (j : I.Jump) (k : ℕ) → Mem r xs → r.what ≡ leap j (waits k)
-      → (d : ℕ) × (get_elem? c.marks k ≡ Some (Open r.offset d)) × (I.taken j r.depth ≡ Some d)
-  pub labels : (i o d : ℕ) → get_elem? ms i ≡ Some (Open o d)
+      → (d : ℕ) × (get_elem? c.marks k ≡ found (Open r.offset d)) × (I.taken j r.depth ≡ Some d)
+  pub labels : (i o d : ℕ) → get_elem? ms i ≡ found (Open o d)
       → (r : Row I) × (j : I.Jump) × Mem r xs × (r.what ≡ leap j (waits (length b.marks + i))) × (r.offset ≡ o)
-  pub spots : (i o d : ℕ) → get_elem? ms i ≡ Some (Target o d) → Dep I c o d
+  pub spots : (i o d : ℕ) → get_elem? ms i ≡ found (Target o d) → Dep I c o d
 
 module _ (I : Isa) (L : Laws I) (b : Book I) (xs : List (Row I)) (ss : List (ℕ × ℕ)) (ms : List Mark) (n : ℕ)
     (z : Option ℕ) where
@@ -75,19 +76,19 @@ module _ (I : Isa) (L : Laws I) (b : Book I) (xs : List (Row I)) (ss : List (ℕ
       begins o d (inr m) = w.begins o d m
 
       opens : (r : Row I) (j : I.Jump) (k : ℕ) → Mem r b.rows ⊎ Mem r xs → r.what ≡ leap j (waits k)
-          → (d : ℕ) × (get_elem? (b.marks ++ ms) k ≡ Some (Open r.offset d)) × (I.taken j r.depth ≡ Some d)
+          → (d : ℕ) × (get_elem? (b.marks ++ ms) k ≡ found (Open r.offset d)) × (I.taken j r.depth ≡ Some d)
       opens r j k (inl m) e = let p = g.opens r j k m e in (p.0, nth_left b.marks ms k p.1, p.2)
       opens r j k (inr m) e = w.opens r j k m e
 
-      labels : (k o d : ℕ) → (get_elem? b.marks k ≡ Some (Open o d)) ⊎
-          ((i : ℕ) × (k ≡ length b.marks + i) × (get_elem? ms i ≡ Some (Open o d)))
+      labels : (k o d : ℕ) → (get_elem? b.marks k ≡ found (Open o d)) ⊎
+          ((i : ℕ) × (k ≡ length b.marks + i) × (get_elem? ms i ≡ found (Open o d)))
           → (r : Row I) × (j : I.Jump) × Mem r (b.rows ++ xs) × (r.what ≡ leap j (waits k)) × (r.offset ≡ o)
       labels k o d (inl e) = let p = g.labels k o d e in (p.0, p.1, Memᴰ.append_left xs p.2, p.3, p.4)
       labels k o d (inr t) =
           let p = w.labels t.0 o d t.2 in (p.0, p.1, Memᴰ.append_right b.rows p.2, rw t.1 p.3, p.4)
 
-      spots : (k o d : ℕ) → (get_elem? b.marks k ≡ Some (Target o d)) ⊎
-          ((i : ℕ) × (k ≡ length b.marks + i) × (get_elem? ms i ≡ Some (Target o d)))
+      spots : (k o d : ℕ) → (get_elem? b.marks k ≡ found (Target o d)) ⊎
+          ((i : ℕ) × (k ≡ length b.marks + i) × (get_elem? ms i ≡ found (Target o d)))
           → Dep I (grown I b xs ss ms n z) o d
       spots k o d (inl e) = mv.deps o d (g.spots k o d e)
       spots k o d (inr t) = w.spots t.0 o d t.2

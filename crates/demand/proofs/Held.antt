@@ -2,7 +2,6 @@
 -- Assumes nothing.
 use Rattle.builder.specs.Patch.{patching}
 use Rattle.builder.specs.Patch.{PatchDecision}
-use Rattle.builder.specs.Plan.{planned}
 use Rattle.builder.specs.Plan.{Decision}
 use Rattle.std.specs.Prelude.{Ok, Err, Some, None, Option}
 use mathlib.Core.Path.{◌≡◌, refl}
@@ -48,9 +47,10 @@ module _ (b : Builder) (k : ℕ) (code locs : List ℕ) (within : b.core.code �
         ≤ length (commit_of p b.core b.location (encode k o ns) code locs).code
     emit_held_by (Ok None) e = within
     emit_held_by (Err r) e = within
-    emit_held_by (Ok (Some (planned a w s))) e =
-        let g = plan_goes b.core b.location k name o (length ns) (length code) (length locs) s w a e in
-        put_held g.here o ns 0 s w a g.goes
+    emit_held_by (Ok (Some plan)) e =
+        let g = plan_goes b.core b.location k name o (length ns) (length code) (length locs)
+        plan.size plan.word plan.after e in
+        put_held g.here o ns 0 plan.size plan.word plan.after g.goes
 
     pub emit_held : (after (emit_named b k name o ns code locs).answer b).core.code
         ≤ length (emit_named b k name o ns code locs).code
@@ -63,9 +63,10 @@ module _ (b : Builder) (k : ℕ) (code locs : List ℕ) (within : b.core.code �
         ≤ length (commit_jump p b k code locs marks).code
     jump_held_by (Ok None) e = within
     jump_held_by (Err r) e = within
-    jump_held_by (Ok (Some (planned a w s))) e =
-        let g = forward_goes b.core b.location k (length code) (length locs) (length marks) s w a e in
-        put_held g.here unpatched [] w s w a g.goes
+    jump_held_by (Ok (Some plan)) e =
+        let g = forward_goes b.core b.location k (length code) (length locs) (length marks)
+        plan.size plan.word plan.after e in
+        put_held g.here unpatched [] plan.word plan.size plan.word plan.after g.goes
 
     pub jump_held : (after_jump (emit_jump_of b k code locs marks).answer b).core.code
         ≤ length (emit_jump_of b k code locs marks).code
@@ -78,9 +79,10 @@ module _ (b : Builder) (k : ℕ) (code locs : List ℕ) (within : b.core.code �
           ≤ length (commit_to p b.core b.location k code locs).code
       to_held_by (Ok None) e = within
       to_held_by (Err r) e = within
-      to_held_by (Ok (Some (planned a w s))) e =
-          let g = to_goes b.core b.location k t (length code) (length locs) marks s w a e in
-          put_held g.here (jump_by w) [] w s w a g.goes
+      to_held_by (Ok (Some plan)) e =
+          let g = to_goes b.core b.location k t (length code) (length locs) marks
+          plan.size plan.word plan.after e in
+          put_held g.here (jump_by plan.word) [] plan.word plan.size plan.word plan.after g.goes
 
       pub to_held : (after (emit_jump_to_of b k t code locs marks).answer b).core.code
           ≤ length (emit_jump_to_of b k t code locs marks).code
@@ -88,8 +90,8 @@ module _ (b : Builder) (k : ℕ) (code locs : List ℕ) (within : b.core.code �
       to_held = to_held_by (to_plan_of b.core b.location k t (length code) (length locs) marks) refl
 
 module _ (b : Builder) (code marks : List ℕ) (within : b.core.code ≤ length code) where
-  patch_place : (x : JumpLabel) (o w : ℕ) (a : Option ℕ) → patch_plan_of b.core x (length code) marks ≡ Ok (Some (patching a w o))
-      → o + 3 ≤ b.core.code
+  patch_place : (x : JumpLabel) (o w : ℕ) (a : Option ℕ)
+      → patch_plan_of b.core x (length code) marks ≡ Ok (Some (patching a w o)) → o + 3 ≤ b.core.code
   unfolding patch_plan_of
   patch_place L.Dead o w a e = absurd (guard_never (markable b.core (length code) (length marks)) Unsound o w a e)
   patch_place (L.Row i) o w a e =
@@ -100,7 +102,9 @@ module _ (b : Builder) (code marks : List ℕ) (within : b.core.code ≤ length 
       → (after (commit_patch p b x code marks).answer b).core.code ≤ length (commit_patch p b x code marks).code
   patch_held_by x (Ok None) e = within
   patch_held_by x (Err r) e = within
-  patch_held_by x (Ok (Some (patching a w o))) e = omega (arith, length_put (o + 1) (word_bytes w) code (omega (arith, patch_place x o w a e)))
+  patch_held_by x (Ok (Some plan)) e =
+      let place = patch_place x plan.offset plan.word plan.after e in
+      omega (arith, length_put (plan.offset + 1) (word_bytes plan.word) code (omega (arith, place)))
 
   pub patch_held : (x : JumpLabel) → (after (patch_jump_of b x code marks).answer b).core.code
       ≤ length (patch_jump_of b x code marks).code

@@ -24,40 +24,42 @@ use Rattle.builder.specs.Back.{to_asked, to_plan_of}
 use Rattle.builder.specs.Patch.{mark_plan_of, open_plan, patch_guard}
 use Rattle.builder.proofs.Plans.{line_idle}
 
-pub plan_idle : (c : Core) (l : Option Location) (k name : ℕ) (o : Operand) (n cl ll : ℕ) → plan_of c l k name o n cl ll ≡ (Ok None)
-    → c.depth ≡ None
+pub plan_idle : (c : Core) (l : Option Location) (k name : ℕ) (o : Operand) (n cl ll : ℕ)
+    → plan_of c l k name o n cl ll ≡ Ok None → c.depth ≡ None
 unfolding plan_of
 plan_idle c l k name o n cl ll e = line_idle (plain_asked c l k name o n cl ll) e
 
-pub jump_idle : (c : Core) (l : Option Location) (k cl ll ml : ℕ) → jump_plan_of c l k cl ll ml ≡ (Ok None) → c.depth ≡ None
+pub jump_idle : (c : Core) (l : Option Location) (k cl ll ml : ℕ) → jump_plan_of c l k cl ll ml ≡ Ok None → c.depth ≡ None
 unfolding jump_plan_of
 jump_idle c l k cl ll ml e = line_idle (jump_asked c l k cl ll ml) e
 
 pub to_idle : (c : Core) (l : Option Location) (k : ℕ) (t : JumpTarget) (cl ll : ℕ) (marks : List ℕ)
-    → to_plan_of c l k t cl ll marks ≡ (Ok None) → c.depth ≡ None
+    → to_plan_of c l k t cl ll marks ≡ Ok None → c.depth ≡ None
 unfolding to_plan_of
 to_idle c l k t cl ll marks e = line_idle (to_asked c l k t (target_mark t c.marks marks) cl ll (length marks)) e
 
 -- a label that is Dead has nothing to patch, and a mark is never idle
-pub guard_never : (t : Bool) (r : Refusal) (o w : ℕ) (a : Option ℕ) → patch_guard t r (Ok None) ≡ Ok (Some (patching a w o)) → ⊥
+pub guard_never : (t : Bool) (r : Refusal) (o w : ℕ) (a : Option ℕ)
+    → patch_guard t r (Ok None) ≡ Ok (Some (patching a w o)) → ⊥
 guard_never true r o w a e = clash cc
 guard_never false r o w a e = clash cc
 
-patch_never : {B : Type 0} {r : Refusal} → Err r ≡ (Ok None) → B
+patch_never : {B : Type 0} {r : Refusal} → ◌≡◌ {A = PatchDecision} (Err r) (Ok None) → B
 patch_never e = clash cc
 
-patch_busy : (o w : ℕ) (a : Option ℕ) → Ok (Some (patching a w o)) ≡ (Ok None) → ⊥
+patch_busy : (o w : ℕ) (a : Option ℕ)
+    → ◌≡◌ {A = PatchDecision} (Ok (Some (patching a w o))) (Ok None) → ⊥
 patch_busy o w a e = clash cc
 
-patch_guard_idle : (t : Bool) (r : Refusal) (p : PatchDecision) → patch_guard t r p ≡ (Ok None) → p ≡ (Ok None)
+patch_guard_idle : (t : Bool) (r : Refusal) (p : PatchDecision) → patch_guard t r p ≡ Ok None → p ≡ Ok None
 patch_guard_idle true r p e = e
 patch_guard_idle false r p e = patch_never e
 
-pub mark_busy : (m : Mark) (c : Core) → mark_plan_of m c ≡ (Ok None) → ⊥
+pub mark_busy : (m : Mark) (c : Core) → mark_plan_of m c ≡ Ok None → ⊥
 unfolding mark_plan_of
 mark_busy m c e = go m (patch_guard_idle (mark_sound c.code m) Unsound (open_plan m c) e)
   where
-    go : (m : Mark) → open_plan m c ≡ (Ok None) → ⊥
+    go : (m : Mark) → open_plan m c ≡ Ok None → ⊥
     go Absent e = patch_never e
     go (Target o d) e = patch_never e
     go (Patched o d) e = patch_never e

@@ -1,11 +1,9 @@
 -- What calls keep: a refused call changes no table, and calls that emit nothing leave what the view looks at.
 -- Assumes nothing.
-use Rattle.builder.specs.Patch.{patching}
 use Rattle.builder.specs.Patch.{PatchDecision}
-use Rattle.builder.specs.Plan.{planned}
 use Rattle.builder.specs.Plan.{Decision}
-use Rattle.std.specs.Prelude.{Ok, Err, Some, None, Option}
-use mathlib.Core.Path.{◌≡◌, refl}
+use Rattle.std.specs.Prelude.{Ok, Err, Some, None, Option, Result}
+use mathlib.Core.Path.{◌≡◌, refl, ap}
 use mathlib.Core.Bool.{Bool, ◌&&◌}
 use mathlib.Core.List.{List}
 use Prim.Native.Nat.{ℕ, ◌+◌}
@@ -45,7 +43,7 @@ module _ (b : Builder) (r : Refusal) where
         × ((commit_of p b.core b.location (encode k o ns) code locs).locations ≡ locs)
     emit_by (Ok None) e = (refl, refl)
     emit_by (Err q) e = (refl, refl)
-    emit_by (Ok (Some (planned a w s))) e = (cc, cc)
+    emit_by (Ok (Some plan)) e = (cc, cc)
 
     pub emit_refused : (emit_named b k name o ns code locs).answer ≡ Err r
         → ((emit_named b k name o ns code locs).code ≡ code) × ((emit_named b k name o ns code locs).locations ≡ locs)
@@ -58,7 +56,7 @@ module _ (b : Builder) (r : Refusal) where
         × ((commit_jump p b k code locs marks).marks ≡ marks)
     jump_by_lem (Ok None) e = (refl, refl, refl)
     jump_by_lem (Err q) e = (refl, refl, refl)
-    jump_by_lem (Ok (Some (planned a w s))) e = (cc, cc, cc)
+    jump_by_lem (Ok (Some plan)) e = (cc, cc, cc)
 
     pub jump_refused : (emit_jump_of b k code locs marks).answer ≡ Err r
         → ((emit_jump_of b k code locs marks).code ≡ code) × ((emit_jump_of b k code locs marks).locations ≡ locs)
@@ -71,7 +69,7 @@ module _ (b : Builder) (r : Refusal) where
         × ((commit_to p b.core b.location k code locs).locations ≡ locs)
     to_by (Ok None) e = (refl, refl)
     to_by (Err q) e = (refl, refl)
-    to_by (Ok (Some (planned a w s))) e = (cc, cc)
+    to_by (Ok (Some plan)) e = (cc, cc)
 
     pub to_refused : (t : JumpTarget) → (emit_jump_to_of b k t code locs marks).answer ≡ Err r
         → ((emit_jump_to_of b k t code locs marks).code ≡ code) × ((emit_jump_to_of b k t code locs marks).locations ≡ locs)
@@ -83,7 +81,7 @@ module _ (b : Builder) (r : Refusal) where
         → ((commit_patch p b l code marks).code ≡ code) × ((commit_patch p b l code marks).marks ≡ marks)
     patch_by (Ok None) e = (refl, refl)
     patch_by (Err q) e = (refl, refl)
-    patch_by (Ok (Some (patching a w o))) e = (cc, cc)
+    patch_by (Ok (Some plan)) e = (cc, cc)
 
     pub patch_refused : (patch_jump_of b l code marks).answer ≡ Err r
         → ((patch_jump_of b l code marks).code ≡ code) × ((patch_jump_of b l code marks).marks ≡ marks)
@@ -227,10 +225,11 @@ module _ (b : Builder) (value : ℕ) (cells : List ℕ) where
   abbrev ConstSame : AddedKept → Type 0
   ConstSame k = (n : Builder) (i : ℕ) → k.answer ≡ Ok (n, i) → (n.core ≡ b.core) × (n.starts ≡ b.starts)
 
-  made_same : (m n : Builder) (j i : ℕ) → m.core ≡ b.core → m.starts ≡ b.starts → Ok (m, j) ≡ Ok (n, i)
-      → (n.core ≡ b.core) × (n.starts ≡ b.starts)
+  made_same : (m n : Builder) (j i : ℕ) → m.core ≡ b.core → m.starts ≡ b.starts
+      → ◌≡◌ {A = Result (Builder × ℕ) Refusal} (Ok (m, j)) (Ok (n, i)) → (n.core ≡ b.core) × (n.starts ≡ b.starts)
   made_same m n j i p q e =
-      let h : m ≡ n = cc in
+      let both : ◌≡◌ {A = Builder × ℕ} (m, j) (n, i) = cc in
+      let h : m ≡ n = ap (λ (x : Builder × ℕ). x.0) both in
       (rw h at p, rw h at q)
 
   pub const_same : ConstSame (add_const_of b value cells)

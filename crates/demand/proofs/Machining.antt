@@ -1,6 +1,5 @@
 -- The laws of the rules' instruction set, from the laws of `op` and `code`.
 -- Assumes nothing.
-use Rattle.op.specs.Effects.{by}
 use Rattle.op.specs.declared.Effect.{Effect}
 use Rattle.std.specs.Prelude.{Ok, Err, Result, Some}
 use mathlib.Core.Path.{◌≡◌, refl}
@@ -50,7 +49,9 @@ module _ (low : Refusal) (d e : ℕ) where
 
   pub landing_small : (x : Result Effect Refusal) → landing low d x ≡ Ok e → e ≤ 65535
   unfolding landing
-  landing_small (Ok (by up down)) h = by_tests (leb down (d + up)) (leb (d + up - down) deepest) (d + up - down) _ _ refl h
+  landing_small (Ok effect) h =
+      let after : ℕ = d + effect.up - effect.down in
+      by_tests (leb effect.down (d + effect.up)) (leb after deepest) after _ _ refl h
   landing_small (Err r) h = clash cc
 
   -- the depth does not hang on the refusal that is given below 0
@@ -63,7 +64,9 @@ module _ (low : Refusal) (d e : ℕ) where
   -- an effect that lands leads there as a change
   pub leads_of : (x : Result Effect Refusal) → landing low d x ≡ Ok e → Leads d (change_of x) e
   unfolding landing
-  leads_of (Ok (by up down)) h = any_low (leb down (d + up)) (leb (d + up - down) deepest) (d + up - down) _ _ _ h
+  leads_of (Ok effect) h =
+      let after : ℕ = d + effect.up - effect.down in
+      any_low (leb effect.down (d + effect.up)) (leb after deepest) after _ _ _ h
   leads_of (Err r) h = clash cc
 
 pub depth_is : (x : Result ℕ Refusal) (e : ℕ) → in_range x ≡ Some e → x ≡ Ok e

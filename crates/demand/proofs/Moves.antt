@@ -4,6 +4,7 @@ use Rattle.std.specs.Prelude.{Ok, Some, None, Option}
 use mathlib.Core.Path.{◌≡◌, sym, ap, ◌∙◌}
 use mathlib.Core.Bool.{true}
 use mathlib.Core.List.{[], ◌∷◌, ◌++◌}
+use mathlib.Core.Option.{some as found}
 use Prim.Native.Nat.{ℕ, ◌+◌, ◌/◌, ◌%◌, ◌≤◌}
 use native.Mathlib.Omega.{arith}
 use lib.ListN.{length, set, get_elem?}
@@ -37,7 +38,7 @@ module _ (v : View) where
 
   pub jumped_at : (k d e i o t p w : ℕ) (x : JumpTarget) → x ≡ T.Row i → length v.code ≡ p → w ≡ bits p o
       → v.depth ≡ Some d → after_of d k (jump_by w) ≡ Ok e
-      → taken_depth_of d k ≡ Ok t → get_elem? v.marks i ≡ Some (Target o t) → near p o ≡ true
+      → taken_depth_of d k ≡ Ok t → get_elem? v.marks i ≡ found (Target o t) → near p o ≡ true
       → Moved v (emit_jump_to_call k x) ok
       (record {
         code = v.code ++ encode k (jump_by w) [];
@@ -50,7 +51,7 @@ module _ (v : View) where
       rw (ex, q) (jumped {k = k} d e i o t h (rw (← q) f) g m (rw ep c))
 
   pub patched_at : (i o d p w : ℕ) (a : Option ℕ) → a ≡ Some d → length v.code ≡ p → w ≡ bits o p
-      → get_elem? v.marks i ≡ Some (Open o d) → d ≤ word_max → meets v.depth d ≡ true
+      → get_elem? v.marks i ≡ found (Open o d) → d ≤ word_max → meets v.depth d ≡ true
       → near o p ≡ true → o + 3 ≤ p
       → Moved v (patch_jump_call (L.Row i)) ok
       (record { code = set (set v.code (o + 1) (w % 256)) (o + 2) (w / 256); marks = set v.marks i (Patched o d); starts = v.starts; depth = a })

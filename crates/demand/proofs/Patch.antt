@@ -5,6 +5,7 @@ use mathlib.Core.Path.{◌≡◌, refl, sym, ◌∙◌}
 use mathlib.Core.Bool.{Bool, true, false, cond}
 use mathlib.Core.Logic.{◌≢◌}
 use mathlib.Core.List.{List, [], ◌∷◌, map, Memᴰ as Mem}
+use mathlib.Core.Option.{some as found}
 use Prim.Native.Nat.{ℕ, ◌+◌, ◌≤◌}
 use lib.Dec.{eqb}
 use lib.ListN.{set, get_elem?}
@@ -52,7 +53,7 @@ module _ (I : Isa) (k t : ℕ) where
       go true e q = clash cc
       go false e q = (q, λ c. eqb-false m k e (let y : l ≡ m = cc in cc))
 
-module _ (I : Isa) (L : Laws I) (b : Book I) (g : Good I L b) (k o d : ℕ) (mk : get_elem? b.marks k ≡ Some (Open o d))
+module _ (I : Isa) (L : Laws I) (b : Book I) (g : Good I L b) (k o d : ℕ) (mk : get_elem? b.marks k ≡ found (Open o d))
     (near : near o b.len ≡ true) (meets : (e : ℕ) → b.cur ≡ Some e → e ≡ d) where
   pub moves_patched : Moves I b (patched I b k o d)
   moves_patched = record {
@@ -132,7 +133,7 @@ module _ (I : Isa) (L : Laws I) (b : Book I) (g : Good I L b) (k o d : ℕ) (mk 
 
       opens : (r : Row I) (j : I.Jump) (l : ℕ) → Mem r (map (resolve I k b.len) b.rows)
           → r.what ≡ leap j (waits l)
-          → (e : ℕ) × (get_elem? (set b.marks k (Patched o d)) l ≡ Some (Open r.offset e))
+          → (e : ℕ) × (get_elem? (set b.marks k (Patched o d)) l ≡ found (Open r.offset e))
           × (I.taken j r.depth ≡ Some e)
       opens r j l m h =
           let q = mem_map_inv (resolve I k b.len) b.rows m in
@@ -141,13 +142,13 @@ module _ (I : Isa) (L : Laws I) (b : Book I) (g : Good I L b) (k o d : ℕ) (mk 
           let c = g.opens q.0 j l q.1 a.0 in
           rw q.2 (c.0, other l a.1 ∙ c.1, c.2)
 
-      apart : (l p e : ℕ) → (m : Mark) → (m ≡ Patched o d → ⊥) → get_elem? (set b.marks k (Patched o d)) l ≡ Some m
+      apart : (l p e : ℕ) → (m : Mark) → (m ≡ Patched o d → ⊥) → get_elem? (set b.marks k (Patched o d)) l ≡ found m
           → l ≢ k
       apart l p e m ne h c =
           let s = nth_set_same b.marks k (Patched o d) mk in
-          let h' : get_elem? (set b.marks k (Patched o d)) k ≡ Some m = rw c at h in ne (cc)
+          let h' : get_elem? (set b.marks k (Patched o d)) k ≡ found m = rw c at h in ne (cc)
 
-      labels : (l p e : ℕ) → get_elem? (set b.marks k (Patched o d)) l ≡ Some (Open p e)
+      labels : (l p e : ℕ) → get_elem? (set b.marks k (Patched o d)) l ≡ found (Open p e)
           → (r : Row I) × (j : I.Jump) × Mem r (map (resolve I k b.len) b.rows) × (r.what ≡ leap j (waits l))
           × (r.offset ≡ p)
       labels l p e h =
@@ -155,7 +156,7 @@ module _ (I : Isa) (L : Laws I) (b : Book I) (g : Good I L b) (k o d : ℕ) (mk 
           let q = g.labels l p e (sym (other l n) ∙ h) in
           (resolve I k b.len q.0, q.1, mem_map (resolve I k b.len) q.2, rw (q.3, ne_eqb l k n), q.4)
 
-      spots : (l p e : ℕ) → get_elem? (set b.marks k (Patched o d)) l ≡ Some (Target p e)
+      spots : (l p e : ℕ) → get_elem? (set b.marks k (Patched o d)) l ≡ found (Target p e)
           → Dep I (patched I b k o d) p e
       spots l p e h =
           let n = apart l p e (Target p e) (λ c. clash cc) h in

@@ -77,7 +77,7 @@ module _ (r : Refusal) where
         → given (emit_instruction i w.state ns w.code w.locations).answer ≡ no r
         → (emits w (emit_instruction i w.state ns w.code w.locations)).left ≡ w
     numbered_same ns None e = refl
-    numbered_same ns (Some (record { opcode = k; name = name; operand = o })) e = emission_same k name o ns e
+    numbered_same ns (Some i) e = emission_same i.opcode i.name i.operand ns e
 
     step_same : (c : PublicCall) → (step c w).answer ≡ no r → (step c w).left ≡ w
     step_same (emit' k) e = emission_same k 0 O.None [] e

@@ -74,7 +74,8 @@ decode_row o w v rest =
     let d = decode_encode last_opcode (said o w).opcode (said o w).operand (said o w).names rest
     (formed_known (said_formed o w v)) (said_formed o w v) o in
     ap (λ (l : List ℕ). decode last_opcode o (l ++ rest)) (sym b) ∙ d
-    ∙ ap (Instr (said o w).opcode (said o w).operand) (ap length b ∙ length_bytes isa o w)
+    ∙ ap (λ (size : ℕ). Ok (Some (instr (said o w).opcode (said o w).operand size)))
+    (ap length b ∙ length_bytes isa o w)
 
 pub stands_by : (s : List ℕ) (o : ℕ) (w : What isa) (rest : List ℕ) → Closed isa laws o w
     → drop o s ≡ bytes_at isa o w ++ rest → Stands last_opcode s o (flow_at (length s) o w)

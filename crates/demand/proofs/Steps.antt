@@ -136,7 +136,7 @@ module _ (w : World) (h : Within w) where
   numbered ns None =
       stays w.state (no WrongShape) w.locations w.exceptions w.constants w.names (refl, refl)
       (λ v. refused)
-  numbered ns (Some (record { opcode = k; name = name; operand = o })) = emission k name o ns
+  numbered ns (Some i) = emission i.opcode i.name i.operand ns
 
   pub moving : (c : PublicCall) → Moving w (kind_of c) (step c w)
   moving (emit' k) = emission k 0 O.None []

@@ -4,7 +4,7 @@ use mathlib.Core.Path.{◌≡◌, refl, sym, ap, ◌∙◌}
 use mathlib.Core.Bool.{Bool, true, false, cond}
 use mathlib.Core.Logic.{◌≢◌}
 use mathlib.Core.List.{List, [], ◌∷◌, ◌++◌, append_assoc}
-use Rattle.std.specs.Prelude.{Some}
+use mathlib.Core.Option.{some as found}
 use Prim.Native.Nat.{ℕ, zero, suc, ◌+◌, ◌*◌, ◌/◌, ◌%◌, ◌≤◌, ◌<◌}
 use native.Mathlib.Decide.{ℕ_discrete}
 use native.Mathlib.Nat.{add-zero}
@@ -34,11 +34,11 @@ module _ {A : Type 0} where
   tab_ext zero f g h = refl
   tab_ext (suc n) f g h = rw (tab_ext n f g (λ k l. h k (omega arith)), h n (omega arith))
 
-  pub tab_nth : (n : ℕ) (f : ℕ → A) (k : ℕ) → k < n → get_elem? (tab n f) k ≡ Some (f k)
+  pub tab_nth : (n : ℕ) (f : ℕ → A) (k : ℕ) → k < n → get_elem? (tab n f) k ≡ found (f k)
   unfolding tab
   tab_nth (suc n) f k l = go (ℕ_discrete k n) (λ (h : k < n). tab_nth n f k h)
     where
-      go : Dec (k ≡ n) → (k < n → get_elem? (tab n f) k ≡ Some (f k)) → get_elem? (tab n f ++ (f n ∷ [])) k ≡ Some (f k)
+      go : Dec (k ≡ n) → (k < n → get_elem? (tab n f) k ≡ found (f k)) → get_elem? (tab n f ++ (f n ∷ [])) k ≡ found (f k)
       go (yes e) ih = rw e (let h = nth_seam (tab n f) (f n) [] in rw (tab_length n f) at h)
       go (no e) ih = nth_left (tab n f) (f n ∷ []) k (ih (omega arith))
   tab_nth zero f k l = absurd (omega arith)

@@ -6,6 +6,7 @@ use mathlib.Core.Bool.{Bool, true, false, cond}
 use mathlib.Core.Logic.{◌⊎◌, inl, inr}
 use mathlib.Core.List.Memᴰ
 use mathlib.Core.List.{List, [], ◌∷◌, ◌++◌, append-nil}
+use mathlib.Core.Option.{some as found}
 use Prim.Native.Nat.{ℕ, zero, suc, ◌+◌, ◌/◌, ◌%◌, ◌≤◌}
 use native.Mathlib.Omega.{arith}
 use lib.IntN.{pos}
@@ -51,7 +52,7 @@ book v h = record { rows = h.rows; len = h.end; cur = v.depth; starts = v.starts
 pub record Tied (v : View) (h : History) : Type 0 where
   pub good : Good isa laws (book v h)
   pub code : v.code ≡ bytes_of isa h.rows
-  pub targets : (k o d : ℕ) → get_elem? v.marks k ≡ Some (Target o d) → look h.targets k ≡ o
+  pub targets : (k o d : ℕ) → get_elem? v.marks k ≡ found (Target o d) → look h.targets k ≡ o
   pub starts : v.starts ≡ h.starts
 
 -- what the arguments' types and the calls themselves give
@@ -127,7 +128,7 @@ trim rs n c ss ms g = rw append-nil at g
 
 module _ (v : View) (h : History) (t : Tied v h) where
   added : (d : ℕ) (w : What isa) (ms : List Mark) → Good isa laws (push isa (book v h) d w ms)
-      → ((i o u : ℕ) → get_elem? ms i ≡ Some (Target o u) → ⊥)
+      → ((i o u : ℕ) → get_elem? ms i ≡ found (Target o u) → ⊥)
       → Tied (record {
         code = v.code ++ bytes_at isa h.end w;
         marks = v.marks ++ ms;
@@ -141,12 +142,12 @@ module _ (v : View) (h : History) (t : Tied v h) where
     starts = t.starts;
   }
     where
-      go : (k o u : ℕ) → (get_elem? v.marks k ≡ Some (Target o u)) ⊎
-          ((i : ℕ) × (k ≡ length v.marks + i) × (get_elem? ms i ≡ Some (Target o u))) → look h.targets k ≡ o
+      go : (k o u : ℕ) → (get_elem? v.marks k ≡ found (Target o u)) ⊎
+          ((i : ℕ) × (k ≡ length v.marks + i) × (get_elem? ms i ≡ found (Target o u))) → look h.targets k ≡ o
       go k o u (inl e) = t.targets k o u e
       go k o u (inr q) = absurd (n q.0 o u q.2)
 
-  no_target : (i o u : ℕ) → get_elem? [] i ≡ Some (Target o u) → ⊥
+  no_target : (i o u : ℕ) → get_elem? [] i ≡ found (Target o u) → ⊥
   no_target i o u q = clash cc
 
   tied_emit : (k : ℕ) (o : Operand) (ns : List ℕ) (d e : ℕ) → v.depth ≡ Some d → SignsFit o × Still o
@@ -173,13 +174,13 @@ module _ (v : View) (h : History) (t : Tied v h) where
       (added d (leap k (waits (length v.marks))) (Open h.end u ∷ [])
       (label_good isa laws (book v h) t.good d l k u e n (ap in_range g)) none)
     where
-      none : (i o f : ℕ) → get_elem? (Open h.end u ∷ []) i ≡ Some (Target o f) → ⊥
+      none : (i o f : ℕ) → get_elem? (Open h.end u ∷ []) i ≡ found (Target o f) → ⊥
       none zero o f q = clash cc
       none (suc i) o f q = clash cc
 
   tied_jump : (k i d e o u : ℕ) → v.depth ≡ Some d → after_of d k (jump_by (bits (length v.code) o)) ≡ Ok e
       → taken_depth_of d k ≡ Ok u
-      → get_elem? v.marks i ≡ Some (Target o u) → near (length v.code) o ≡ true
+      → get_elem? v.marks i ≡ found (Target o u) → near (length v.code) o ≡ true
       → Tied (record {
         code = v.code ++ encode k (jump_by (bits (length v.code) o)) [];
         marks = v.marks;
@@ -208,13 +209,13 @@ module _ (v : View) (h : History) (t : Tied v h) where
     starts = t.starts;
   })
     where
-      only : (o u i k : ℕ) → k ≡ length v.marks + i → get_elem? (Target h.end d ∷ []) i ≡ Some (Target o u)
+      only : (o u i k : ℕ) → k ≡ length v.marks + i → get_elem? (Target h.end d ∷ []) i ≡ found (Target o u)
           → (length v.marks ≡ k) × (h.end ≡ o)
       only o u zero k e q = (omega arith, cc)
       only o u (suc i) k e q = clash cc
 
-      go : (k o u : ℕ) → (get_elem? v.marks k ≡ Some (Target o u)) ⊎
-          ((i : ℕ) × (k ≡ length v.marks + i) × (get_elem? (Target h.end d ∷ []) i ≡ Some (Target o u)))
+      go : (k o u : ℕ) → (get_elem? v.marks k ≡ found (Target o u)) ⊎
+          ((i : ℕ) × (k ≡ length v.marks + i) × (get_elem? (Target h.end d ∷ []) i ≡ found (Target o u)))
           → look ((length v.marks, h.end) ∷ h.targets) k ≡ o
       go k o u (inl e) = let q =
           nth_lt v.marks k e in rw (ne_eqb (length v.marks) k (λ c. omega arith), look) (t.targets k o u e)
@@ -234,7 +235,7 @@ module _ (v : View) (h : History) (t : Tied v h) where
     starts = rw t.starts;
   })
 
-  tied_patch : (k o u : ℕ) → get_elem? v.marks k ≡ Some (Open o u) → meets v.depth u ≡ true
+  tied_patch : (k o u : ℕ) → get_elem? v.marks k ≡ found (Open o u) → meets v.depth u ≡ true
       → near o (length v.code) ≡ true
       → Tied (record { code = set (set v.code (o + 1) (bits o (length v.code) % 256)) (o + 2) (bits o (length v.code) / 256); marks = set v.marks k (Patched o u); starts = v.starts; depth = Some u })
       (patch_here h k)
@@ -253,11 +254,11 @@ module _ (v : View) (h : History) (t : Tied v h) where
       has : Has isa laws k h.end o h.rows
       has = let q = t.good.labels k o u m in (q.0, q.1, q.2, q.3)
 
-      before : (i p f : ℕ) → get_elem? (set v.marks k (Patched o u)) i ≡ Some (Target p f)
-          → get_elem? v.marks i ≡ Some (Target p f)
+      before : (i p f : ℕ) → get_elem? (set v.marks k (Patched o u)) i ≡ found (Target p f)
+          → get_elem? v.marks i ≡ found (Target p f)
       before i p f e = sym (nth_set_other v.marks k i (Patched o u) (λ c.
           let s = nth_set_same v.marks k (Patched o u) m in
-          let e' : get_elem? (set v.marks k (Patched o u)) k ≡ Some (Target p f) = rw c at e in
+          let e' : get_elem? (set v.marks k (Patched o u)) k ≡ found (Target p f) = rw c at e in
           clash cc)) ∙ e
 
   tied_dead : (w : What isa) → v.depth ≡ None → Tied v (add h v.depth w)

@@ -4,6 +4,7 @@ use Rattle.std.specs.Prelude.{Ok, Some, None, Option}
 use mathlib.Core.Path.{◌≡◌}
 use mathlib.Core.Bool.{true}
 use mathlib.Core.List.{List, [], ◌∷◌, ◌++◌}
+use mathlib.Core.Option.{some as found}
 use Prim.Native.Nat.{ℕ, zero, suc, ◌+◌, ◌*◌, ◌/◌, ◌%◌, ◌≤◌}
 use lib.ListN.{length, take, get_or, set, get_elem?}
 use Rattle.op.specs.Depths.{after_of, taken_depth_of}
@@ -72,7 +73,7 @@ pub data Moved (v : View) : Call → Given → View → Type 0 where
       })
   jumped : {k : ℕ} (d e i o t : ℕ) → v.depth ≡ Some d → after_of d k (jump_by (bits (length v.code) o)) ≡ Ok e
       → taken_depth_of d k ≡ Ok t
-      → get_elem? v.marks i ≡ Some (Target o t) → near (length v.code) o ≡ true
+      → get_elem? v.marks i ≡ found (Target o t) → near (length v.code) o ≡ true
       → Moved v (emit_jump_to_call k (T.Row i)) ok
       (record {
         code = v.code ++ encode k (jump_by (bits (length v.code) o)) [];
@@ -80,7 +81,7 @@ pub data Moved (v : View) : Call → Given → View → Type 0 where
         starts = v.starts;
         depth = behind k e;
       })
-  patched : (i o d : ℕ) → get_elem? v.marks i ≡ Some (Open o d) → d ≤ word_max → meets v.depth d ≡ true
+  patched : (i o d : ℕ) → get_elem? v.marks i ≡ found (Open o d) → d ≤ word_max → meets v.depth d ≡ true
       → near o (length v.code) ≡ true
       → o + jump_size ≤ length v.code
       → Moved v (patch_jump_call (L.Row i)) ok

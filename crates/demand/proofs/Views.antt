@@ -1,14 +1,13 @@
 -- How each call moves the view that demand 3 looks at: from the models alone.
 -- Assumes nothing.
-use Rattle.builder.specs.Patch.{patching}
 use Rattle.builder.specs.Patch.{PatchDecision}
-use Rattle.builder.specs.Plan.{planned}
 use Rattle.builder.specs.Plan.{Decision}
 use Rattle.builder.specs.declared.Location.{Location}
-use Rattle.std.specs.Prelude.{Ok, Err, Some, None, Option}
+use Rattle.std.specs.Prelude.{Ok, Err, Some, None, Option, Result}
 use mathlib.Core.Path.{◌≡◌, refl, sym, ap, ◌∙◌}
 use mathlib.Core.Bool.{Bool, true, false}
 use mathlib.Core.List.{List, [], ◌∷◌, ◌++◌}
+use mathlib.Core.Option.{some as found}
 use Prim.Native.Nat.{ℕ, ◌+◌, ◌/◌, ◌≤◌}
 use native.Mathlib.Omega.{arith}
 use lib.ListN.{length, take}
@@ -16,6 +15,7 @@ use lib.Seq.{length-take-le}
 use borrow.Author.Tests.{ltb-true, eqb-true}
 use Rattle.base.proofs.Bools.{clash}
 use Rattle.op.specs.declared.Operand.{Operand}
+use Rattle.op.specs.declared.Refusal.{Refusal}
 use Rattle.op.specs.declared.Refusal.TheVariants.{Full, Unsound}
 use Rattle.op.specs.declared.Table.TheVariants.{Starts}
 use Rattle.code.specs.Encode.{encode}
@@ -70,10 +70,12 @@ module _ (b : Builder) (k name : ℕ) (o : Operand) (ns code locs marks starts :
       (commit_of p b.core b.location (encode k o ns) code locs).code marks starts)
   emit_by (Ok None) e = dead_emit (plan_idle b.core b.location k name o (length ns) (length code) (length locs) e)
   emit_by (Err r) e = refused
-  emit_by (Ok (Some (planned a w s))) e =
-      let g = plan_goes b.core b.location k name o (length ns) (length code) (length locs) s w a e in
+  emit_by (Ok (Some plan)) e =
+      let g = plan_goes b.core b.location k name o (length ns) (length code) (length locs)
+      plan.size plan.word plan.after e in
       rw (
-        code_grows b.core b.location g.here k o ns 0 code (length locs) s a w g.sound.code g.goes,
+        code_grows b.core b.location g.here k o ns 0 code (length locs)
+            plan.size plan.after plan.word g.sound.code g.goes,
         g.goes.depth,
       )
       (emitted g.here g.goes.next g.live g.goes.count g.goes.few g.goes.falls)
@@ -102,16 +104,18 @@ module _ (b : Builder) (k : ℕ) (code locs marks starts : List ℕ) where
       (commit_jump p b k code locs marks).marks starts)
   jump_by_lem (Ok None) e = dead_jump (jump_idle b.core b.location k (length code) (length locs) (length marks) e)
   jump_by_lem (Err r) e = refused
-  jump_by_lem (Ok (Some (planned a w s))) e =
+  jump_by_lem (Ok (Some plan)) e =
       let c = b.core in
-      let g = forward_goes c b.location k (length code) (length locs) (length marks) s w a e in
+      let g = forward_goes c b.location k (length code) (length locs) (length marks)
+      plan.size plan.word plan.after e in
       rw (
-        code_grows c b.location g.here k unpatched [] w code (length locs) s a w g.sound.code g.goes,
+        code_grows c b.location g.here k unpatched [] plan.word code (length locs)
+            plan.size plan.after plan.word g.sound.code g.goes,
         g.goes.depth,
-        marks_push c.marks open_kind c.code w marks (omega (arith, g.mark)),
-        open_of c.code w,
+        marks_push c.marks open_kind c.code plan.word marks (omega (arith, g.mark)),
+        open_of c.code plan.word,
       )
-      (labelled_at (view_of b code marks starts) k g.here g.goes.next w c.marks c.code
+      (labelled_at (view_of b code marks starts) k g.here g.goes.next plan.word c.marks c.code
       (tab_length c.marks (mark_at marks)) (length-take-le c.code code g.sound.code)
       g.live g.goes.falls g.taken)
 
@@ -131,17 +135,19 @@ module _ (b : Builder) (k : ℕ) (t : JumpTarget) (code locs marks starts : List
       (commit_to p b.core b.location k code locs).code marks starts)
   to_by (Ok None) e = dead_to (to_idle b.core b.location k t (length code) (length locs) marks e)
   to_by (Err r) e = refused
-  to_by (Ok (Some (planned a w s))) e =
+  to_by (Ok (Some plan)) e =
       let c = b.core in
-      let g = to_goes c b.location k t (length code) (length locs) marks s w a e in
+      let g = to_goes c b.location k t (length code) (length locs) marks
+      plan.size plan.word plan.after e in
       let u = mark_used c.marks marks g.row (Target g.offset g.depth) g.mark (λ n. clash cc) in
       rw (
-        code_grows c b.location g.here k (jump_by w) [] w code (length locs) s a w g.sound.code g.goes,
+        code_grows c b.location g.here k (jump_by plan.word) [] plan.word code (length locs)
+            plan.size plan.after plan.word g.sound.code g.goes,
         g.goes.depth,
       )
-      (jumped_at (view_of b code marks starts) k g.here g.goes.next g.row g.offset g.depth c.code w t
+      (jumped_at (view_of b code marks starts) k g.here g.goes.next g.row g.offset g.depth c.code plan.word t
       g.target (length-take-le c.code code g.sound.code) g.word
-      g.live g.goes.falls g.taken (tab_nth c.marks (mark_at marks) g.row u.0 ∙ ap Some u.1) g.close)
+      g.live g.goes.falls g.taken (tab_nth c.marks (mark_at marks) g.row u.0 ∙ ap found u.1) g.close)
 
   pub to_moves : Moved (view_of b code marks starts) (emit_jump_to_call k t)
       (given (emit_jump_to_of b k t code locs marks).answer)
@@ -163,7 +169,8 @@ module _ (b : Builder) (code marks starts : List ℕ) where
       (commit_patch p b L.Dead code marks).marks starts)
   dead_by (Ok None) e = dead_patch
   dead_by (Err r) e = refused
-  dead_by (Ok (Some (patching a w o))) e = absurd (guard_never (markable b.core (length code) (length marks)) _ o w a e)
+  dead_by (Ok (Some plan)) e =
+      absurd (guard_never (markable b.core (length code) (length marks)) _ plan.offset plan.word plan.after e)
 
   module _ (i : ℕ) where
     row_by : (p : PatchDecision) → markable b.core (length code) (length marks) ≡ true
@@ -174,16 +181,19 @@ module _ (b : Builder) (code marks starts : List ℕ) where
         (commit_patch p b (L.Row i) code marks).marks starts)
     row_by (Ok None) sd e = absurd (mark_busy (mark_in b.core.marks marks i) b.core e)
     row_by (Err r) sd e = refused
-    row_by (Ok (Some (patching a w o))) sd e =
+    row_by (Ok (Some plan)) sd e =
         let c = b.core in
         let h = markable_true c (length code) (length marks) sd in
-        let g = patch_goes c o w a (mark_in c.marks marks i) e in
-        let u = mark_used c.marks marks i (Open o g.depth) g.mark (λ n. clash cc) in
-        rw (code_patch code c.code o w g.place h.code, marks_patch i o g.depth marks u.1 c.marks u.0 (omega (arith, h.rows)))
-        (patched_at (view_of b code marks starts) i o g.depth c.code w a
+        let g = patch_goes c plan.offset plan.word plan.after (mark_in c.marks marks i) e in
+        let u = mark_used c.marks marks i (Open plan.offset g.depth) g.mark (λ n. clash cc) in
+        rw (
+          code_patch code c.code plan.offset plan.word g.place h.code,
+          marks_patch i plan.offset g.depth marks u.1 c.marks u.0 (omega (arith, h.rows)),
+        )
+        (patched_at (view_of b code marks starts) i plan.offset g.depth c.code plan.word plan.after
         (g.after ∙ revived_live c.depth g.depth g.meet) (length-take-le c.code code h.code)
         g.word
-        (tab_nth c.marks (mark_at marks) i u.0 ∙ ap Some u.1) g.small g.meet g.close g.place)
+        (tab_nth c.marks (mark_at marks) i u.0 ∙ ap found u.1) g.small g.meet g.close g.place)
 
     row_any : (t : Bool) → markable b.core (length code) (length marks) ≡ t → (p : PatchDecision)
         → patch_guard t Unsound (mark_plan_of (mark_in b.core.marks marks i) b.core) ≡ p
@@ -265,7 +275,7 @@ module _ (b : Builder) (code marks starts : List ℕ) (fits : b.core.code ≤ le
 
 -- a new builder
 
-pub made : (a b : Builder) → Ok a ≡ Ok b → a ≡ b
+pub made : (a b : Builder) → ◌≡◌ {A = Result Builder Refusal} (Ok a) (Ok b) → a ≡ b
 made a b e = cc
 
 pub new_view : (told : Option ℕ) (code marks starts : List ℕ) (b : Builder) → (new_of told starts).answer ≡ Ok b

@@ -1,8 +1,6 @@
 -- The used code and the used starts stay within their lent tables, whatever is called.
 -- Assumes nothing.
-use Rattle.builder.specs.Patch.{patching}
 use Rattle.builder.specs.Patch.{PatchDecision}
-use Rattle.builder.specs.Plan.{planned}
 use Rattle.builder.specs.Plan.{Decision}
 use Rattle.builder.specs.declared.Core.{Core}
 use Rattle.op.specs.declared.Refusal.{Refusal}
@@ -61,7 +59,7 @@ module _ (b : Builder) where
       go : (p : Decision) → (after_jump (commit_jump p b k code locs marks).answer b).starts ≡ b.starts
       go (Ok None) = refl
       go (Err r) = refl
-      go (Ok (Some (planned a w s))) = refl
+      go (Ok (Some plan)) = refl
 
   pub patch_starts : (l : JumpLabel) (code marks : List ℕ)
       → (after (patch_jump_of b l code marks).answer b).starts ≡ b.starts
@@ -71,7 +69,7 @@ module _ (b : Builder) where
       go : (p : PatchDecision) → (after (commit_patch p b l code marks).answer b).starts ≡ b.starts
       go (Ok None) = refl
       go (Err r) = refl
-      go (Ok (Some (patching a w o))) = refl
+      go (Ok (Some plan)) = refl
 
   -- a target keeps both counts
   abbrev TargetKeeps : TargetOutcome → Type 0

@@ -2,7 +2,6 @@
 -- of a function is its `ensures` as the toolchain reads it from the source: a fact about the arguments, the answer
 -- and the arguments at exit. So nothing here says a second time what a call does.
 -- Assumes nothing.
-use Rattle.builder.specs.Patch.{patching}
 use Rattle.builder.specs.declared.JumpTarget.{JumpTarget}
 use Rattle.builder.specs.declared.JumpLabel.{JumpLabel}
 use Rattle.op.specs.declared.Refusal.{Refusal}

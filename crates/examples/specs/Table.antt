@@ -119,25 +119,25 @@ pub record Examples : Type 0 where
       × (emit_named (dead 0 0) RaiseUnboundLocal 65536 (U16 0) [] code [] ≡ outcome (Err NameTooLarge) code []) × (number_of NameTooLarge ≡ 8))
   -- F: ForIter at depth 1: 2 / 0; at depth 0: 4
   pub f : (code : List ℕ) → length code ≡ 3
-      → (emit_jump_of (live 1 0 0) ForIter code [] (0 ∷ 0 ∷ 0 ∷ 0 ∷ []) ≡ jump_outcome (Ok ((live 2 3 1), (L.Row 0))) (put 0 (0x5E ∷ 0 ∷ 0 ∷ []) code) [] (put 0 (mark_row open_kind 0 0) (0 ∷ 0 ∷ 0 ∷ 0 ∷ [])))
+      → (emit_jump_of (live 1 0 0) ForIter code [] (0 ∷ 0 ∷ 0 ∷ 0 ∷ []) ≡ jump_outcome (Ok (live 2 3 1, L.Row 0)) (put 0 (0x5E ∷ 0 ∷ 0 ∷ []) code) [] (put 0 (mark_row open_kind 0 0) (0 ∷ 0 ∷ 0 ∷ 0 ∷ [])))
       × (emit_jump_of (live 0 0 0) ForIter code [] (0 ∷ 0 ∷ 0 ∷ 0 ∷ [])
       ≡ jump_outcome (Err DepthBelowZero) code [] (0 ∷ 0 ∷ 0 ∷ 0 ∷ []))
       × (number_of DepthBelowZero ≡ 4)
   -- G: JumpIfTrueOrPop at depth 1 patched right behind itself: 11
   pub g : (emit_jump_of (live 1 0 0) JumpIfTrueOrPop (0 ∷ 0 ∷ 0 ∷ []) [] (0 ∷ 0 ∷ 0 ∷ 0 ∷ [])
-      ≡ jump_outcome (Ok ((live 0 3 1), (L.Row 0))) (0x5B ∷ 0 ∷ 0 ∷ []) [] (mark_row open_kind 0 1))
+      ≡ jump_outcome (Ok (live 0 3 1, L.Row 0)) (0x5B ∷ 0 ∷ 0 ∷ []) [] (mark_row open_kind 0 1))
       × (patch_jump_of (live 0 3 1) (L.Row 0) (0x5B ∷ 0 ∷ 0 ∷ []) (mark_row open_kind 0 1)
       ≡ patch_outcome (Err DepthsDiffer) (0x5B ∷ 0 ∷ 0 ∷ []) (mark_row open_kind 0 1))
       × (number_of DepthsDiffer ≡ 11)
   -- H: offset 1 gives 30, 2 gives 20, 8 gives 30, 10 none; over the rows and over the records
-  pub h : (handler_of rows 1 ≡ Some (1, (entry_row to_30))) × (handler_of rows 2 ≡ Some (0, (entry_row to_20)))
-      × (handler_of rows 8 ≡ Some (1, (entry_row to_30))) × (handler_of rows 10 ≡ None)
+  pub h : (handler_of rows 1 ≡ Some (1, entry_row to_30)) × (handler_of rows 2 ≡ Some (0, entry_row to_20))
+      × (handler_of rows 8 ≡ Some (1, entry_row to_30)) × (handler_of rows 10 ≡ None)
       × (find_from entries 1 0 ≡ Some (1, to_30)) × (find_from entries 2 0 ≡ Some (0, to_20))
       × (find_from entries 8 0 ≡ Some (1, to_30)) × (find_from entries 10 0 ≡ None)
   -- I: 65,535 held: the next constant is index 65,535; then 9
   pub i : (value : ℕ) (cells : List ℕ) → length cells ≡ 65537
       → (add_const_of (holding None 0 0 65535) value cells
-      ≡ added_kept (Ok ((holding None 0 0 65536), 65535)) (put 65535 (value ∷ []) cells))
+      ≡ added_kept (Ok (holding None 0 0 65536, 65535)) (put 65535 (value ∷ []) cells))
       × (add_const_of (holding None 0 0 65536) value cells ≡ added_kept (Err TooManyConstants) cells)
       × (number_of TooManyConstants ≡ 9)
   -- J: load slots 3, 4, 255, 256: 0C; 0D 04; 0D FF; 0E 00 01
