@@ -7,19 +7,11 @@ use native.Mathlib.Omega.{arith}
 use lib.ListN.{length}
 use borrow.Author.Tests.{lt-leb, le-leb}
 use Rattle.op.specs.Opcodes.{last_opcode, known}
-use Rattle.op.specs.Names.{name_of, name_text, name_starts, name_by}
+use Rattle.op.specs.Names.{name_of}
 use Rattle.op.specs.declared.Refusal.TheVariants.{Full}
 use Rattle.op.specs.declared.Table.TheVariants.{Text}
-use Rattle.op.proofs.Listed.{rows}
-use Rattle.op.proofs.Named.{name_by_lem}
 use Rattle.code.specs.Bytes.{front}
 use Rattle.api.specs.Answers.{refused, name_answer, name_cells}
-
--- what `of_opcode` answers over the two tables is the name
-pub name_is : (k : ℕ) (name text starts : List ℕ) → k ≤ last_opcode → name ≡ name_by text starts k → text ≡ name_text
-    → starts ≡ name_starts → name ≡ name_of k
-name_is k name text starts h e t s = e ∙ ap (λ (l : List ℕ). name_by l starts k) t
-    ∙ ap (λ (l : List ℕ). name_by name_text l k) s ∙ name_by_lem k (omega (arith, rows))
 
 module _ (k : ℕ) (name out : List ℕ) (h : k ≤ last_opcode) (is : name ≡ name_of k) where
   pub name_full : length out < length name → (refused (Full Text) ≡ name_answer k (length out)) × (out ≡ name_cells k out)

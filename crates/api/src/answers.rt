@@ -8,7 +8,7 @@ ghost use Rattle.api.specs.Given.{flags_answer};
 ghost use Rattle.api.specs.Typed.{read_answer};
 
 use checker::Assignment;
-use op::{Effect, Refusal};
+use op::{CmpOperator, Effect, Refusal};
 use readback::BadLine;
 
 // A refusal's answer.

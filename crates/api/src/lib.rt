@@ -26,7 +26,7 @@ ghost use Rattle.api.specs.Typed.{ReadsTold};
 ghost use Rattle.api.specs.Steps.{step_told, WritesGiven};
 ghost use Rattle.api.specs.Tables.{located_told, handled_told, constant_told, name_told};
 
-use code::{CODE_LIMIT, Step};
+use code::CODE_LIMIT;
 use op::{CmpOperator, Refusal, Table};
 use text::listing;
 
@@ -108,9 +108,8 @@ pub fn tf_opcode_name(opcode: u8, out: &mut [u8]) -> u64
     if op::opcodes::LAST < opcode {
         return answers::refused(Refusal::UnknownOpcode);
     }
-    let text = op::names::text();
-    let starts = op::names::starts();
-    let name = op::names::of_opcode(opcode, &text, &starts);
+    let names = op::names::Names::new();
+    let name = names.of(opcode);
     if out.len() < name.len() {
         return answers::refused(Refusal::Full(Table::Text));
     }
@@ -122,21 +121,11 @@ pub fn tf_opcode_name(opcode: u8, out: &mut [u8]) -> u64
 pub fn tf_assert_flags(comparison: u8) -> u8
     ensures { result ≡ flags_given comparison }
 {
-    let operator = match comparison {
-        0 => CmpOperator::Eq,
-        1 => CmpOperator::NotEq,
-        2 => CmpOperator::Lt,
-        3 => CmpOperator::LtE,
-        4 => CmpOperator::Gt,
-        5 => CmpOperator::GtE,
-        6 => CmpOperator::Is,
-        7 => CmpOperator::IsNot,
-        8 => CmpOperator::In,
-        9 => CmpOperator::NotIn,
-        10 => return op::flags::assert_flags(None),
-        _ => return 255,
-    };
-    op::flags::assert_flags(Some(operator))
+    match CmpOperator::try_from(comparison) {
+        Ok(operator) => op::flags::assert_flags(Some(operator)),
+        Err(_) if comparison == 10 => op::flags::assert_flags(None),
+        Err(_) => 255,
+    }
 }
 
 pub fn tf_decode_assert_flags(flags: u8) -> u8
@@ -169,7 +158,7 @@ pub fn tf_count_instructions(code: &[u8]) -> u64
     }
     match code::reading::count(code) {
         Ok(n) => n as u64,
-        Err(Stopped { count: _, refusal }) => answers::refused(refusal),
+        Err(stopped) => answers::refused(stopped.refusal),
     }
 }
 
@@ -178,8 +167,12 @@ pub fn tf_step(code: &[u8], at: usize, out: &mut [u64]) -> u64
         out.new }
 {
     match code::decoder::step_at(code, at) {
-        Ok(Some(Instr { opcode, operand, size })) => steps::tell_instruction(at, opcode, operand, size, out),
-        Ok(None) => 0,
+        Ok(found) => {
+            let Some(instr) = found else {
+                return 0;
+            };
+            steps::tell_instruction(at, instr, out)
+        }
         Err(refusal) => answers::refused(refusal),
     }
 }

@@ -1,7 +1,7 @@
 // Two records of the exception table, given as numbers.
 ghost use Rattle.std.specs.Prelude.{◌≡◌, ◌+◌, ◌≤◌, cond, leb, length};
-ghost use Rattle.code.specs.Entries.{kind_number, entry_row, flat_answer};
-ghost use Rattle.api.specs.Pairs.{kind_of, entry_of, entry_at, both_told};
+ghost use Rattle.code.specs.Entries.{flat_answer};
+ghost use Rattle.api.specs.Pairs.{entry_of, entry_at, both_told};
 ghost use Rattle.api.specs.Tables.{handled_told};
 ghost use Rattle.api.specs.Told.{Tells};
 
@@ -9,34 +9,13 @@ use crate::{answers, tables};
 use code::{ExceptionEntry, HandlerKind, HandlerRow};
 use op::Refusal;
 
-// A kind by its number, if it is one. The types here are crate `code`'s, so these are no `From` and no `TryFrom`.
-fn kind_of(number: u32) -> Option<HandlerKind>
-    ensures { result ≡ cond (leb number 1) (Some (kind_of number)) None }
-{
-    match number {
-        0 => Some(HandlerKind::Consuming),
-        1 => Some(HandlerKind::Cleanup),
-        _ => None,
-    }
-}
-
-// A kind's number.
-fn kind_number(kind: HandlerKind) -> u32
-    ensures { result ≡ kind_number kind }
-{
-    match kind {
-        HandlerKind::Consuming => 0,
-        HandlerKind::Cleanup => 1,
-    }
-}
-
 // The record that a row holds, if it holds one.
 fn entry(row: HandlerRow) -> Option<ExceptionEntry>
     ensures { result ≡ entry_of row.start row.end row.handler row.depth row.count row.kind }
 {
     let stack_depth = u16::try_from(row.depth).ok()?;
     let exception_stack_count = u16::try_from(row.count).ok()?;
-    let kind = kind_of(row.kind)?;
+    let kind = HandlerKind::try_from(row.kind).ok()?;
     Some(ExceptionEntry {
         start: row.start,
         end: row.end,
@@ -63,27 +42,12 @@ pub fn entry_at(rows: &[u32], at: usize) -> Option<ExceptionEntry>
     })
 }
 
-// A record as a row.
-fn row_of(entry: ExceptionEntry) -> HandlerRow
-    ensures { result ≡ entry_row entry }
-{
-    let kind = entry.kind;
-    HandlerRow {
-        start: entry.start,
-        end: entry.end,
-        handler: entry.handler,
-        depth: entry.stack_depth as u32,
-        count: entry.exception_stack_count as u32,
-        kind: kind_number(kind),
-    }
-}
-
 // Tells what was found.
 fn tell_found(found: Option<(usize, ExceptionEntry)>, out: &mut [u64]) -> u64
     ensures { Tells (handled_told (flat_answer found)) out.old result out.new }
 {
     match found {
-        Some((number, entry)) => tables::tell_handler(number, row_of(entry), out),
+        Some((number, entry)) => tables::tell_handler(number, HandlerRow::from(entry), out),
         None => 0,
     }
 }

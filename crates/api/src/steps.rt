@@ -5,8 +5,8 @@ ghost use Rattle.api.specs.Told.{Tells};
 ghost use Rattle.api.specs.Steps.{values, values_of, step_told, unwritten, written_answer, WritesGiven};
 
 use crate::{Values, answers, cells};
-use code::{decoder, signs, writer};
-use op::{Operand, Refusal, shapes};
+use code::{Instr, decoder, signs, writer};
+use op::{Operand, Refusal, Shape, shapes};
 
 impl Values {
     fn new(a: u16, b: u16, c: u8) -> Values
@@ -43,28 +43,22 @@ impl From<Operand> for Values {
 }
 
 // Tells an instruction that stands at an offset.
-pub fn tell_instruction(
-    at: usize,
-    opcode: u8,
-    operand: Operand,
-    size: usize,
-    out: &mut [u64],
-) -> u64
-    requires { (at + size < 18446744073709551616) × (2 * names_in operand ≤ size) }
-    ensures { Tells (step_told at (Instr opcode operand size)) out.old result out.new }
+pub fn tell_instruction(at: usize, instr: Instr, out: &mut [u64]) -> u64
+    requires { (at + instr.size < 18446744073709551616) × (2 * names_in instr.operand ≤ instr.size) }
+    ensures { Tells (step_told at (Ok (Some instr))) out.old result out.new }
 {
-    let values = Values::from(operand);
-    let shape = shapes::number(shapes::of_operand(operand));
-    let names = decoder::names_of(operand);
+    let values = Values::from(instr.operand);
+    let shape = Shape::from(instr.operand);
+    let names = decoder::names_of(instr.operand);
     let given = [
-        opcode as u64,
-        size as u64,
-        shape as u64,
+        instr.opcode as u64,
+        instr.size as u64,
+        shapes::number(shape) as u64,
         values.a as u64,
         values.b as u64,
         values.c as u64,
         names as u64,
-        (at + size - 2 * names) as u64,
+        (at + instr.size - 2 * names) as u64,
     ];
     cells::tell(&given, out)
 }

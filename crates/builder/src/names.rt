@@ -1,25 +1,7 @@
 // The names of local slots, and numbers of names as they stand in operands.
 ghost use Rattle.std.specs.Prelude.{◌≤◌, ◌<◌, ℕ, ◌%◌, length, map, ◌≡◌};
-ghost use Rattle.builder.specs.Names.{name_cell, named, extension, with_names};
+ghost use Rattle.builder.specs.Names.{name_cell, named, extension};
 ghost use Rattle.code.specs.Bytes.{front};
-
-use crate::Builder;
-
-// The state with so many names.
-pub fn with_names(b: Builder, names: usize) -> Builder
-    ensures { result ≡ with_names b names }
-{
-    let core = b.core;
-    let location = b.location;
-    Builder {
-        core,
-        location,
-        exceptions: b.exceptions,
-        constants: b.constants,
-        names,
-        starts: b.starts,
-    }
-}
 
 // A name's cell.
 fn name_cell(name: u32) -> u64

@@ -8,7 +8,7 @@ ghost use Rattle.readback.specs.Lined.{Tells, Storable, Stores, Lines};
 
 use crate::naming::Names;
 use crate::{fields, numbers, operands, placing};
-use code::{writer};
+use code::writer;
 use op::{Operand, Refusal, shapes};
 
 // An instruction, whose keyword names stand in the cells from `names` to `count`.
