@@ -9,7 +9,7 @@ use Rattle.readback.specs.declared.numbers.Small.{Small}
 use Rattle.words.specs.declared.Signed.{Signed}
 use Rattle.words.specs.declared.NumberError.{NumberError}
 use Rattle.std.specs.Prelude.{◌≡◌, Bool, true, false, cond, not, ◌&&◌, List, [], ◌∷◌, ◌++◌, ℕ, suc, ◌+◌, ◌-◌, ◌*◌, ◌%◌, ◌≤◌, ◌<◌, leb, ltb, eqb, ℤ, pos, negsuc, length, get_or, take, drop, set, replicate, Ok, Err, Some, None, Result}
-use Rattle.op.specs.Names.{name_in, name_text, name_starts}
+use Rattle.op.specs.Names.{name_in}
 use Rattle.op.specs.Opcodes.{Row as Opcode}
 use Rattle.op.specs.Opcodes.{table}
 use Rattle.op.specs.declared.Operand.{Operand}
@@ -46,12 +46,6 @@ placed k (r ∷ rs) slots = placed (suc k) rs (set slots (slot_of (name_in r)) k
 -- the opcode of each slot; one past the last in the others
 unfoldable pub slot_table : List ℕ
 slot_table = placed 0 table (replicate 512 131)
-
--- the lent tables are those of the names
-pub record Named (texts starts slots : List ℕ) : Type 0 where
-  pub text : texts ≡ name_text
-  pub start : starts ≡ name_starts
-  pub slot : slots ≡ slot_table
 
 -- numbers
 
