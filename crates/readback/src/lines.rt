@@ -15,6 +15,7 @@ fn fill(body: &[u8], out: &mut [u8], cells: &mut [u16], names: &Naming) -> Resul
     requires { (length out.old ≤ 65536) × Cells cells.old }
     ensures { Fills body.now out.old result out.new }
 {
+    // The place in the text is counted, since the library has no iterator over the parts of a slice.
     let mut from = 0;
     let mut number = FIRST;
     let mut at = 0;
