@@ -22,10 +22,11 @@ use Rattle.text.specs.Reading.{same, read_whole, present, read_target}
 use Rattle.text.specs.Row.{dash, target_of}
 use Rattle.text.proofs.Opcodes.{yes_same}
 use Rattle.words.specs.Numbers.{fitted, number_of, plus_of, minus_of, whole_of}
+use Rattle.words.specs.declared.Signed.{Signed}
+use Rattle.words.specs.declared.Signed.TheVariants as W
 use Rattle.readback.specs.Formed.{same_whole}
 use Rattle.readback.specs.Inner.{whole}
 use Rattle.readback.specs.Lined.{goal_of, met_if, met_of, offset_of, reached_by, reached_of}
-use Rattle.readback.specs.declared.placing.Goal.{Goal}
 use Rattle.readback.specs.declared.placing.Met.TheVariants as M
 
 -- the displacement
@@ -55,43 +56,45 @@ aim_back (negsuc n) w h e l = let q : n ≡ 65535 - w = omega arith in ap negsuc
 
 -- where a jump goes
 
-abbrev goal : Bool → ℕ → Goal
-goal below size = record { below = below; size = size }
+-- a number's distance from zero
+abbrev pub size_of : Signed → ℕ
+size_of (W.Plus n) = n
+size_of (W.Minus n) = n
 
 module _ (at n : ℕ) where
-  pub goal_near : n < at + 3 → goal false (at + 3 - n - 1) ≡ goal_of (pos (at + 3) +ℤ whole true n)
+  pub goal_near : n < at + 3 → W.Plus (at + 3 - n - 1) ≡ goal_of (pos (at + 3) +ℤ whole true n)
   goal_near h =
       let e : at + 3 - suc n ≡ at + 3 - n - 1 = omega arith in
-      rw (le-ltb (at + 3) (suc n) h) (ap (goal false) (sym e))
+      rw (le-ltb (at + 3) (suc n) h) (ap W.Plus (sym e))
 
-  pub goal_far : at + 3 ≤ n → goal true (n - (at + 3) + 1) ≡ goal_of (pos (at + 3) +ℤ whole true n)
+  pub goal_far : at + 3 ≤ n → W.Minus (n - (at + 3) + 1) ≡ goal_of (pos (at + 3) +ℤ whole true n)
   goal_far h =
       let e : suc (suc n - suc (at + 3)) ≡ n - (at + 3) + 1 = omega arith in
-      rw (lt-ltb (at + 3) (suc n) (omega arith)) (ap (goal true) (sym e))
+      rw (lt-ltb (at + 3) (suc n) (omega arith)) (ap W.Minus (sym e))
 
-  pub goal_small : (minus : Bool) → at ≤ 65536 → n < 65536 → (goal_of (pos (at + 3) +ℤ whole minus n)).size ≤ 131100
+  pub goal_small : (minus : Bool) → at ≤ 65536 → n < 65536 → size_of (goal_of (pos (at + 3) +ℤ whole minus n)) ≤ 131100
   goal_small false h l = omega arith
   goal_small true h l = by (dec_lt n (at + 3))
     where
-      by : Dec (n < at + 3) → (goal_of (pos (at + 3) +ℤ whole true n)).size ≤ 131100
-      by (yes g) = subst (λ (x : Goal). x.size ≤ 131100) (goal_near g) (omega arith)
-      by (no g) = subst (λ (x : Goal). x.size ≤ 131100) (goal_far (omega arith)) (omega arith)
+      by : Dec (n < at + 3) → size_of (goal_of (pos (at + 3) +ℤ whole true n)) ≤ 131100
+      by (yes g) = subst (λ (x : Signed). size_of x ≤ 131100) (goal_near g) (omega arith)
+      by (no g) = subst (λ (x : Signed). size_of x ≤ 131100) (goal_far (omega arith)) (omega arith)
 
 -- a number that was read in 64 bits, and one that fits them
 
 large_other : (n m : ℕ) → m ≤ 131100 → 18446744073709551615 < n → eqb n m ≡ false
 large_other n m h l = ne_eqb n m (λ e. omega arith)
 
-met_plus : (n : ℕ) (z : ℤ) → (goal_of z).size ≤ 131100 → (b : Bool) → leb n 18446744073709551615 ≡ b
-    → met_of (plus_of (cond b (Ok n) (Err Large))) (goal_of z).below (goal_of z).size ≡ met_if (same_whole (pos n) z)
+met_plus : (n : ℕ) (z : ℤ) → size_of (goal_of z) ≤ 131100 → (b : Bool) → leb n 18446744073709551615 ≡ b
+    → met_of (plus_of (cond b (Ok n) (Err Large))) (goal_of z) ≡ met_if (same_whole (pos n) z)
 unfolding met_of plus_of
 met_plus n (pos m) h true e = refl
 met_plus n (negsuc m) h true e = refl
 met_plus n (pos m) h false e = rw (large_other n m h (leb-false n 18446744073709551615 e))
 met_plus n (negsuc m) h false e = refl
 
-met_minus : (n : ℕ) (z : ℤ) → (goal_of z).size ≤ 131100 → (b : Bool) → leb (suc n) 18446744073709551615 ≡ b
-    → met_of (minus_of (cond b (Ok (suc n)) (Err Large))) (goal_of z).below (goal_of z).size ≡ met_if (same_whole (negsuc n) z)
+met_minus : (n : ℕ) (z : ℤ) → size_of (goal_of z) ≤ 131100 → (b : Bool) → leb (suc n) 18446744073709551615 ≡ b
+    → met_of (minus_of (cond b (Ok (suc n)) (Err Large))) (goal_of z) ≡ met_if (same_whole (negsuc n) z)
 unfolding met_of minus_of
 met_minus n (pos m) h true e = rw (ne_eqb (suc n) 0 (λ q. omega arith))
 met_minus n (negsuc m) h true e = rw (ne_eqb (suc n) 0 (λ q. omega arith)) (ap met_if (same_suc n m))
@@ -106,8 +109,8 @@ met_minus n (pos m) h false e = refl
 met_minus n (negsuc m) h false e =
     rw (ne_eqb n m (λ q. omega (arith, leb-false (suc n) 18446744073709551615 e)))
 
-pub met_reached : (y : Option ℤ) (z : ℤ) → (goal_of z).size ≤ 131100
-    → met_of (whole_of y) (goal_of z).below (goal_of z).size ≡ reached_by y z
+pub met_reached : (y : Option ℤ) (z : ℤ) → size_of (goal_of z) ≤ 131100
+    → met_of (whole_of y) (goal_of z) ≡ reached_by y z
 unfolding whole_of reached_by met_of fitted
 met_reached None z h = refl
 met_reached (Some (pos n)) z h = met_plus n z h (leb n 18446744073709551615) refl

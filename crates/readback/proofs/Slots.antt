@@ -3,20 +3,19 @@
 use mathlib.Core.Path.{◌≡◌, refl, sym, ap, ◌∙◌, subst}
 use mathlib.Core.Bool.{Bool, true, false, cond}
 use mathlib.Core.List.{List, [], ◌∷◌}
-use Prim.Native.Nat.{ℕ, suc, ◌+◌, ◌≤◌, ◌<◌}
+use Prim.Native.Nat.{ℕ, suc, ◌≤◌, ◌<◌}
 use native.Mathlib.Omega.{arith}
 use native.Mathlib.Decide.{dec_lt}
 use lib.Dec.{eqb, eqb→eq}
-use lib.ListN.{length, get_or, drop, set, replicate, drop_of_length-le}
+use lib.ListN.{length, get_or, get_or-eq_default, drop, set, replicate, drop_of_length-le}
 use lib.Seq.{drop-cons}
 use Rattle.base.proofs.Bools.{not_both}
 use Rattle.base.proofs.Keys.{in_range}
-use Rattle.op.specs.Names.{name_in, name_of, name_text, name_starts, name_by}
+use Rattle.op.specs.Names.{name_in, name_of}
 use Rattle.op.specs.Opcodes.{Row as Opcode}
 use Rattle.op.specs.Opcodes.{op, same as unmoved, table, row_of}
 use Rattle.op.specs.declared.Shape.TheVariants.{None}
 use Rattle.op.proofs.Listed.{rows}
-use Rattle.op.proofs.Named.{name_by_lem, past_starts}
 use Rattle.text.specs.Reading.{same, place, opcode_of}
 use Rattle.text.proofs.Opcodes.{same_refl, yes_same, named, read}
 use Rattle.readback.specs.Inner.{slot_of, placed, slot_table}
@@ -50,10 +49,6 @@ pub slot_small : (t : List ℕ) → slot_of t < 512
 unfolding slot_of
 slot_small t = omega arith
 
-starts_size : length name_starts ≡ 132
-unfolding name_starts table
-starts_size = refl
-
 -- no name is empty
 nothing_slot : get_or slot_table (slot_of []) 0 ≡ 131
 unfolding slot_table slot_of table
@@ -75,20 +70,24 @@ opcode_most : (t : List ℕ) → opcode_of t ≤ length table
 unfolding opcode_of
 opcode_most t = place_most table t
 
+-- past the last opcode there is no name
+unnamed : (k : ℕ) → length table ≤ k → [] ≡ name_of k
+unfolding name_of row_of
+unnamed k h = sym (ap name_in (get_or-eq_default table (op "" None unmoved) {n = k} h))
+
 -- the name of the slot's opcode is the text, or no name is
 module _ (t : List ℕ) (k : ℕ) (e : get_or slot_table (slot_of t) 0 ≡ k) where
-  pub slot_named : same (name_by name_text name_starts k) t ≡ true → k ≡ opcode_of t
+  pub slot_named : same (name_of k) t ≡ true → k ≡ opcode_of t
   slot_named s = by (dec_lt k (length table))
     where
       by : Dec (k < length table) → k ≡ opcode_of t
-      by (yes h) = sym (named k h) ∙ ap opcode_of (sym (name_by_lem k h) ∙ yes_same (name_by name_text name_starts k) t s)
+      by (yes h) = sym (named k h) ∙ ap opcode_of (yes_same (name_of k) t s)
       by (no h) =
-          let n : length name_starts ≤ k + 1 = omega (arith, starts_size, rows) in
-          let z : [] ≡ t = past_starts name_text name_starts k n ∙ yes_same (name_by name_text name_starts k) t s in
+          let z : [] ≡ t = unnamed k (omega arith) ∙ yes_same (name_of k) t s in
           sym e ∙ ap (λ (x : List ℕ). get_or slot_table (slot_of x) 0) (sym z) ∙ nothing_slot ∙ sym nothing_named
           ∙ ap opcode_of z
 
-  pub slot_none : same (name_by name_text name_starts k) t ≡ false → 131 ≡ opcode_of t
+  pub slot_none : same (name_of k) t ≡ false → 131 ≡ opcode_of t
   slot_none s = by (dec_lt (opcode_of t) (length table))
     where
       by : Dec (opcode_of t < length table) → 131 ≡ opcode_of t
@@ -96,7 +95,7 @@ module _ (t : List ℕ) (k : ℕ) (e : get_or slot_table (slot_of t) 0 ≡ k) wh
           let j = opcode_of t in
           let n : name_of j ≡ t = read t h in
           let i : j ≡ k = sym (slot_right j h) ∙ ap (λ (x : List ℕ). get_or slot_table (slot_of x) 0) n ∙ e in
-          let q : name_by name_text name_starts k ≡ t = ap (name_by name_text name_starts) (sym i) ∙ name_by_lem j h ∙ n in
+          let q : name_of k ≡ t = ap name_of (sym i) ∙ n in
           let y : same t t ≡ false = subst (λ (x : List ℕ). same x t ≡ false) q s in
           absurd (not_both (same_refl t) y)
       by (no h) = omega (arith, rows, opcode_most t)

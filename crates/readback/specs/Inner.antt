@@ -8,18 +8,15 @@ use Rattle.readback.specs.declared.numbers.Numbers.{Numbers}
 use Rattle.readback.specs.declared.numbers.Small.{Small}
 use Rattle.words.specs.declared.Signed.{Signed}
 use Rattle.words.specs.declared.NumberError.{NumberError}
-use Rattle.std.specs.Prelude.{◌≡◌, Bool, true, false, cond, not, ◌&&◌, List, [], ◌∷◌, ◌++◌, ℕ, suc, ◌+◌, ◌-◌, ◌*◌, ◌%◌, ◌≤◌, ◌<◌, leb, ltb, eqb, ℤ, pos, negsuc, length, get_or, take, drop, set, replicate, Ok, Err, Some, None, Result}
-use Rattle.op.specs.Names.{name_in, name_text, name_starts}
+use Rattle.std.specs.Prelude.{◌≡◌, Bool, true, false, cond, List, [], ◌∷◌, ◌++◌, ℕ, suc, ◌+◌, ◌-◌, ◌*◌, ◌%◌, ◌≤◌, ◌<◌, leb, ltb, eqb, ℤ, pos, negsuc, length, get_or, take, drop, set, replicate, Ok, Err, Some, None, Result}
+use Rattle.op.specs.Names.{name_in}
 use Rattle.op.specs.Opcodes.{Row as Opcode}
 use Rattle.op.specs.Opcodes.{table}
 use Rattle.op.specs.declared.Operand.{Operand}
-use Rattle.op.specs.declared.Operand.TheVariants as O
 use Rattle.op.specs.declared.Shape.{Shape}
-use Rattle.op.specs.declared.Shape.TheVariants as S
 use Rattle.text.specs.Parts.{split}
 use Rattle.text.specs.Reading.{same, read_whole, read_all, read_operands}
 use Rattle.text.specs.Row.{wholes, dash}
-use Rattle.readback.specs.declared.operands.Number.{Number}
 use Rattle.readback.specs.Operands.{Said, and_then, operand_for}
 
 -- parts
@@ -46,12 +43,6 @@ placed k (r ∷ rs) slots = placed (suc k) rs (set slots (slot_of (name_in r)) k
 -- the opcode of each slot; one past the last in the others
 unfoldable pub slot_table : List ℕ
 slot_table = placed 0 table (replicate 512 131)
-
--- the lent tables are those of the names
-pub record Named (texts starts slots : List ℕ) : Type 0 where
-  pub text : texts ≡ name_text
-  pub start : starts ≡ name_starts
-  pub slot : slots ≡ slot_table
 
 -- numbers
 
@@ -121,13 +112,6 @@ Spells c None cells = (s : Shape) → and_then (read_operands c) (operand_for s)
 
 -- operands
 
--- the number at a place, with its sign: an unsigned word or byte where there is a number and no sign
-abbrev pub number_of : Bool → List ℕ → ℕ → Number
-number_of minus cells i =
-    let n = get_or cells i 0 in
-    let there = ltb i (length cells) && not minus in
-    record { word = n; byte = n % 256; fits = there; small = there && ltb n 256 }
-
 abbrev pub spoken_with : Operand → ℕ → Spoken
 spoken_with o names = record { operand = o; names = names }
 
@@ -140,25 +124,7 @@ spoken_of count (Some x) = Some (spoken_with x.operand (count - length x.names))
 abbrev pub spoken_by : Shape → Bool → List ℕ → Option Spoken
 spoken_by s minus cells = spoken_of (length cells) (operand_for s (sign_first minus cells))
 
--- an operand whose numbers fit, with the names behind them that it counts
-abbrev pub told_of : Operand → (places names : ℕ) → (fits : Bool) → (count : ℕ) → Option Spoken
-told_of o places names fits count =
-    cond fits (cond (leb places count) (cond (eqb (count - places) names) (Some (spoken_with o places)) None) None) None
-
--- what n numbers say by a shape, the first three as they stand and the first with its sign
-abbrev pub told_by : Shape → (a b d : Number) → (tiny short : ℤ) → (n : ℕ) → Option Spoken
-told_by S.None a b d tiny short n = told_of O.None 0 0 true n
-told_by S.U8 a b d tiny short n = told_of (O.U8 a.byte) 1 0 a.small n
-told_by S.I8 a b d tiny short n = told_of (O.I8 tiny) 1 0 (ltb a.word 128) n
-told_by S.U16 a b d tiny short n = told_of (O.U16 a.word) 1 0 a.fits n
-told_by S.Offset a b d tiny short n = told_of (O.Offset short) 1 0 (ltb a.word 32768) n
-told_by S.U8U8 a b d tiny short n = told_of (O.U8U8 a.byte b.byte) 2 0 (a.small && b.small) n
-told_by S.U16U8 a b d tiny short n = told_of (O.U16U8 a.word b.byte) 2 0 (a.fits && b.small) n
-told_by S.U16U16 a b d tiny short n = told_of (O.U16U16 a.word b.word) 2 0 (a.fits && b.fits) n
-told_by S.U16U8U8 a b d tiny short n =
-    told_of (O.U16U8U8 a.word b.byte d.byte) 3 0 ((a.fits && b.small) && d.small) n
-told_by S.CallKw a b d tiny short n = told_of (O.CallKw a.byte b.byte) 2 b.byte (a.small && b.small) n
-told_by S.CallAttrKw a b d tiny short n =
-    told_of (O.CallAttrKw a.word b.byte d.byte) 3 d.byte ((a.fits && b.small) && d.small) n
-told_by S.U16U16U8 a b d tiny short n =
-    told_of (O.U16U16U8 a.word b.word d.byte) 3 0 ((a.fits && b.fits) && d.small) n
+-- an operand, with the names behind its numbers that it counts
+abbrev pub told_of : Operand → (places names count : ℕ) → Option Spoken
+told_of o places names count =
+    cond (leb places count) (cond (eqb (count - places) names) (Some (spoken_with o places)) None) None

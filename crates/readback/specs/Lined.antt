@@ -25,7 +25,6 @@ use Rattle.text.specs.Number.{natural, value}
 use Rattle.text.specs.Parts.{split}
 use Rattle.text.specs.Reading.{same, opcode_of, read_operands}
 use Rattle.text.specs.Row.{target_of}
-use Rattle.readback.specs.declared.placing.Goal.{Goal}
 use Rattle.readback.specs.declared.placing.Met.{Met}
 use Rattle.readback.specs.declared.placing.Met.TheVariants as M
 use Rattle.readback.specs.Inner.{most_numbers}
@@ -43,20 +42,22 @@ Aims o (Some (A.Back n)) = o ≡ O.Offset (negsuc n)
 Aims o None = (at : ℕ) → target_of at o ≡ None
 
 -- a whole number by its sign and its distance from zero
-abbrev pub goal_of : ℤ → Goal
-goal_of (pos n) = record { below = false; size = n }
-goal_of (negsuc n) = record { below = true; size = suc n }
+abbrev pub goal_of : ℤ → Signed
+goal_of (pos n) = W.Plus n
+goal_of (negsuc n) = W.Minus (suc n)
 
 -- whether two numbers are the same
 abbrev pub met_if : Bool → Met
 met_if same = cond same M.Here M.Elsewhere
 
 -- a number that was read, and one by its sign and its distance from zero
-unfoldable pub met_of : Result Signed NumberError → Bool → ℕ → Met
-met_of (Ok (W.Plus v)) below size = cond below M.Elsewhere (met_if (eqb v size))
-met_of (Ok (W.Minus v)) below size = cond below (met_if (eqb v size)) M.Elsewhere
-met_of (Err Large) below size = M.Elsewhere
-met_of (Err Not) below size = M.Not
+unfoldable pub met_of : Result Signed NumberError → Signed → Met
+met_of (Ok (W.Plus v)) (W.Plus n) = met_if (eqb v n)
+met_of (Ok (W.Plus v)) (W.Minus n) = M.Elsewhere
+met_of (Ok (W.Minus v)) (W.Plus n) = M.Elsewhere
+met_of (Ok (W.Minus v)) (W.Minus n) = met_if (eqb v n)
+met_of (Err Large) want = M.Elsewhere
+met_of (Err Not) want = M.Not
 
 -- an offset column where `at` results, as a test and a number and as a text
 abbrev pub offset_by : (at : ℕ) (digits : Bool) (n : ℕ) → Met

@@ -6,7 +6,7 @@ ghost use Rattle.readback.specs.Formed.{formed, formed_row};
 ghost use Rattle.readback.specs.Inner.{Cells};
 ghost use Rattle.readback.specs.Lined.{Tells, Storable, Stores, Lines};
 
-use crate::naming::Names;
+use crate::naming::Naming;
 use crate::{fields, numbers, operands, placing};
 use code::writer;
 use op::{Operand, Refusal, shapes};
@@ -21,7 +21,7 @@ pub struct Told {
 }
 
 // What a name and an operand column say.
-fn instruction(name: &[u8], column: &[u8], cells: &mut [u16], names: &Names) -> Option<Told>
+fn instruction(name: &[u8], column: &[u8], cells: &mut [u16], names: &Naming) -> Option<Told>
     requires { Cells cells.old }
     ensures { Tells name.now column.now result cells.new }
 {
@@ -61,7 +61,7 @@ fn row(
     at: usize,
     out: &mut [u8],
     cells: &mut [u16],
-    names: &Names,
+    names: &Naming,
 ) -> Result<usize, Refusal>
     requires { (at ≤ 65536) × Cells cells.old }
     ensures { Lines at
@@ -89,7 +89,7 @@ pub fn read(
     at: usize,
     out: &mut [u8],
     cells: &mut [u16],
-    names: &Names,
+    names: &Naming,
 ) -> Result<usize, Refusal>
     requires { (at ≤ 65536) × Cells cells.old }
     ensures { Lines at (formed t.now) out.old result out.new }

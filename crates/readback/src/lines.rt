@@ -3,18 +3,19 @@ ghost use Rattle.std.specs.Prelude.{◌≡◌, ◌≤◌, length};
 ghost use Rattle.readback.specs.Inner.{Cells};
 ghost use Rattle.readback.specs.Lined.{Fills};
 
-use crate::naming::Names;
-use crate::{BadLine, fields, line, naming, numbers};
-use op::{Refusal, names};
+use crate::naming::Naming;
+use crate::{BadLine, fields, line, numbers};
+use op::Refusal;
 
 // Line 1 is the header.
 const FIRST: usize = 2;
 
 // The bytes of all lines at the front of `out`, or the first bad line.
-fn fill(body: &[u8], out: &mut [u8], cells: &mut [u16], names: &Names) -> Result<usize, BadLine>
+fn fill(body: &[u8], out: &mut [u8], cells: &mut [u16], names: &Naming) -> Result<usize, BadLine>
     requires { (length out.old ≤ 65536) × Cells cells.old }
     ensures { Fills body.now out.old result out.new }
 {
+    // The place in the text is counted, since the library has no iterator over the parts of a slice.
     let mut from = 0;
     let mut number = FIRST;
     let mut at = 0;
@@ -48,14 +49,7 @@ pub fn read(body: &[u8], out: &mut [u8]) -> Result<usize, BadLine>
     requires { length out.old ≤ 65536 }
     ensures { Fills body.now out.old result out.new }
 {
-    let texts = names::text();
-    let starts = names::starts();
-    let slots = naming::slots(&texts, &starts);
-    let names = Names {
-        texts: &texts,
-        starts: &starts,
-        slots: &slots,
-    };
+    let names = Naming::new();
     let mut cells = [0u16; numbers::MOST];
     fill(body, out, &mut cells, &names)
 }

@@ -1,12 +1,11 @@
 // The opcode that a text names. A table has the one opcode whose name can stand at each slot, and a slot is
 // found from a name's length and four of its letters, so one comparison decides.
 ghost use Rattle.std.specs.Prelude.{◌≡◌, ◌-◌, ◌≤◌, get_or};
-ghost use Rattle.op.specs.Names.{name_text, name_starts};
 ghost use Rattle.text.specs.Reading.{opcode_of};
-ghost use Rattle.readback.specs.Inner.{slot_of, slot_table, Named};
+ghost use Rattle.readback.specs.Inner.{slot_of, slot_table};
 
 use crate::fields;
-use op::names;
+use op::names::Names;
 
 // No opcode: one past the last.
 const NONE: u8 = 131;
@@ -30,34 +29,38 @@ fn slot(t: &[u8]) -> usize
 }
 
 // The opcode of each slot: one past the last, or the one whose name has it.
-pub fn slots(texts: &[u8], starts: &[usize]) -> [u8; 512]
-    requires { (texts.now ≡ name_text) × (starts.now ≡ name_starts) }
+fn slots(names: &Names) -> [u8; 512]
     ensures { result ≡ slot_table }
 {
     let mut slots = [NONE; 512];
     for opcode in 0..NONE {
-        let at = slot(names::of_opcode(opcode, texts, starts));
+        let at = slot(names.of(opcode));
         slots[at] = opcode;
     }
     slots
 }
 
-// The opcodes' names, made once for all lines, and the opcode of each slot.
-#[derive(Clone, Copy)]
-pub struct Names<'a> {
-    pub texts: &'a [u8],
-    pub starts: &'a [usize],
-    pub slots: &'a [u8],
-    ghost named: { Named texts.now starts.now slots.now },
+// The opcodes' names and the opcode of each slot, made once for all lines.
+#[derive(Drop)]
+pub struct Naming {
+    names: Names,
+    slots: [u8; 512],
+    ghost own: { slots ≡ slot_table },
 }
 
-impl<'a> Names<'a> {
+impl Naming {
+    pub fn new() -> Naming {
+        let names = Names::new();
+        let slots = slots(&names);
+        Naming { names, slots }
+    }
+
     // The opcode that a text names, or one past the last.
     pub fn opcode(&self, t: &[u8]) -> u8
         ensures { result ≡ opcode_of t.now }
     {
         let k = self.slots[slot(t)];
-        if fields::same(names::of_opcode(k, self.texts, self.starts), t) {
+        if fields::same(self.names.of(k), t) {
             return k;
         }
         NONE

@@ -62,6 +62,7 @@ fn from_first(c: &[u8], end: usize, minus: bool, first: u16, cells: &mut [u16]) 
     ensures { Spells c.now result cells.new }
 {
     cells[0] = first;
+    // The place in the column is counted, since the library has no iterator over the parts of a slice.
     let mut at = end;
     let mut n = 1;
     while at < c.len() {

@@ -1,19 +1,9 @@
 // The operand that a column's numbers say, by the opcode's shape. The cells hold the numbers as `numbers` leaves them.
-ghost use Rattle.std.specs.Prelude.{◌≡◌};
-ghost use Rattle.code.specs.Bytes.{unsigned};
-ghost use Rattle.readback.specs.Inner.{whole, number_of, told_of, told_by, spoken_by};
+ghost use Rattle.std.specs.Prelude.{◌≡◌, drop};
+ghost use Rattle.readback.specs.Operands.{first, plain_at, signed_at};
+ghost use Rattle.readback.specs.Inner.{sign_first, told_of, spoken_by};
 
-use code::signs;
 use op::{Operand, Shape};
-
-// A number as a field may hold it, and whether it fits an unsigned word and an unsigned byte.
-#[derive(Clone, Copy)]
-pub struct Number {
-    pub word: u16,
-    pub byte: u8,
-    pub fits: bool,
-    pub small: bool,
-}
 
 // An operand, and the cell from which on the keyword names stand, the last cells.
 #[derive(Clone, Copy)]
@@ -22,34 +12,50 @@ pub struct Spoken {
     pub names: usize,
 }
 
-// The number at a place, or one that fits no field.
-fn number_at(minus: bool, cells: &[u16], i: usize) -> Number
-    ensures { result ≡ number_of minus cells.now i }
+// The number at a place. Only the first may be below zero: -1 less its cell.
+fn number_at(minus: bool, cells: &[u16], i: usize) -> Option<i32>
+    ensures { result ≡ first (drop i (sign_first minus cells.now)) }
 {
-    if cells.len() <= i {
-        return Number {
-            word: 0,
-            byte: 0,
-            fits: false,
-            small: false,
-        };
+    let n = i32::from(*cells.get(i)?);
+    if minus && i == 0 {
+        return Some(-1 - n);
     }
-    let n = cells[i];
-    Number {
-        word: n,
-        byte: (n % 256) as u8,
-        fits: !minus,
-        small: !minus & (n < 256),
-    }
+    Some(n)
 }
 
-// An operand whose numbers fit their fields, if behind them stand as many names as it counts.
-fn told(operand: Operand, places: usize, names: u8, fits: bool, count: usize) -> Option<Spoken>
-    ensures { result ≡ told_of operand places names fits count }
+// The same where a field of its kind can hold it.
+#[tactic(auto, unfolding(crate::specs::Operands::plain_at, crate::specs::Operands::and_then))]
+fn byte(minus: bool, cells: &[u16], i: usize) -> Option<u8>
+    ensures { result ≡ plain_at 256 i (sign_first minus cells.now) }
 {
-    if !fits {
-        return None;
-    }
+    u8::try_from(number_at(minus, cells, i)?).ok()
+}
+
+#[tactic(auto, unfolding(crate::specs::Operands::plain_at, crate::specs::Operands::and_then))]
+fn word(minus: bool, cells: &[u16], i: usize) -> Option<u16>
+    ensures { result ≡ plain_at 65536 i (sign_first minus cells.now) }
+{
+    u16::try_from(number_at(minus, cells, i)?).ok()
+}
+
+#[tactic(auto, unfolding(crate::specs::Operands::signed_at, crate::specs::Operands::and_then))]
+fn tiny(minus: bool, cells: &[u16]) -> Option<i8>
+    ensures { result ≡ signed_at 128 0 (sign_first minus cells.now) }
+{
+    i8::try_from(number_at(minus, cells, 0)?).ok()
+}
+
+#[tactic(auto, unfolding(crate::specs::Operands::signed_at, crate::specs::Operands::and_then))]
+fn short(minus: bool, cells: &[u16]) -> Option<i16>
+    ensures { result ≡ signed_at 32768 0 (sign_first minus cells.now) }
+{
+    i16::try_from(number_at(minus, cells, 0)?).ok()
+}
+
+// An operand, if behind its numbers stand as many names as it counts.
+fn told(operand: Operand, places: usize, names: u8, count: usize) -> Option<Spoken>
+    ensures { result ≡ told_of operand places names count }
+{
     if count < places {
         return None;
     }
@@ -62,72 +68,60 @@ fn told(operand: Operand, places: usize, names: u8, fits: bool, count: usize) ->
     })
 }
 
-// What n numbers say by a shape: the first three as they stand, and the first with its sign, as a byte and as a word.
-fn told_by(
-    shape: Shape,
-    a: Number,
-    b: Number,
-    d: Number,
-    tiny: i8,
-    short: i16,
-    n: usize,
-) -> Option<Spoken>
-    ensures { result ≡ told_by shape a b d tiny short n }
-{
-    let bytes = a.fits & b.small & d.small;
-    let words = a.fits & b.fits & d.small;
-    match shape {
-        Shape::None => told(Operand::None, 0, 0, true, n),
-        Shape::U8 => told(Operand::U8(a.byte), 1, 0, a.small, n),
-        Shape::I8 => told(Operand::I8(tiny), 1, 0, a.word < 128, n),
-        Shape::U16 => told(Operand::U16(a.word), 1, 0, a.fits, n),
-        Shape::Offset => told(Operand::Offset(short), 1, 0, a.word < 32768, n),
-        Shape::U8U8 => told(Operand::U8U8(a.byte, b.byte), 2, 0, a.small & b.small, n),
-        Shape::U16U8 => told(Operand::U16U8(a.word, b.byte), 2, 0, a.fits & b.small, n),
-        Shape::U16U16 => told(Operand::U16U16(a.word, b.word), 2, 0, a.fits & b.fits, n),
-        Shape::U16U8U8 => told(Operand::U16U8U8(a.word, b.byte, d.byte), 3, 0, bytes, n),
-        Shape::CallKw => {
-            let operand = Operand::CallKw {
-                positional: a.byte,
-                names: b.byte,
-            };
-            told(operand, 2, b.byte, a.small & b.small, n)
-        }
-        Shape::CallAttrKw => {
-            let operand = Operand::CallAttrKw {
-                attribute: a.word,
-                positional: b.byte,
-                names: d.byte,
-            };
-            told(operand, 3, d.byte, bytes, n)
-        }
-        Shape::U16U16U8 => told(Operand::U16U16U8(a.word, b.word, d.byte), 3, 0, words, n),
-    }
-}
-
-// The two's complement of a number by its sign and its distance from zero, or from -1.
-fn bits_of(minus: bool, n: u16) -> u16
-    ensures { result ≡ unsigned 65536 (whole minus n) }
-{
-    if minus {
-        return 65535 - n;
-    }
-    n
-}
-
 // The operand of a shape that the numbers say, with its names.
+#[tactic(auto, unfolding(crate::specs::Operands::operand_for, crate::specs::Operands::and_then, crate::specs::Inner::spoken_of))]
 pub fn of_shape(shape: Shape, minus: bool, cells: &[u16]) -> Option<Spoken>
     ensures { result ≡ spoken_by shape minus cells.now }
 {
-    // Many instructions have no operand: no number is read for them.
-    if let Shape::None = shape {
-        return told(Operand::None, 0, 0, true, cells.len());
+    let n = cells.len();
+    match shape {
+        Shape::None => told(Operand::None, 0, 0, n),
+        Shape::U8 => told(Operand::U8(byte(minus, cells, 0)?), 1, 0, n),
+        Shape::I8 => told(Operand::I8(tiny(minus, cells)?), 1, 0, n),
+        Shape::U16 => told(Operand::U16(word(minus, cells, 0)?), 1, 0, n),
+        Shape::Offset => told(Operand::Offset(short(minus, cells)?), 1, 0, n),
+        Shape::U8U8 => {
+            let a = byte(minus, cells, 0)?;
+            let b = byte(minus, cells, 1)?;
+            told(Operand::U8U8(a, b), 2, 0, n)
+        }
+        Shape::U16U8 => {
+            let a = word(minus, cells, 0)?;
+            let b = byte(minus, cells, 1)?;
+            told(Operand::U16U8(a, b), 2, 0, n)
+        }
+        Shape::U16U16 => {
+            let a = word(minus, cells, 0)?;
+            let b = word(minus, cells, 1)?;
+            told(Operand::U16U16(a, b), 2, 0, n)
+        }
+        Shape::U16U8U8 => {
+            let a = word(minus, cells, 0)?;
+            let b = byte(minus, cells, 1)?;
+            let d = byte(minus, cells, 2)?;
+            told(Operand::U16U8U8(a, b, d), 3, 0, n)
+        }
+        Shape::CallKw => {
+            let positional = byte(minus, cells, 0)?;
+            let names = byte(minus, cells, 1)?;
+            told(Operand::CallKw { positional, names }, 2, names, n)
+        }
+        Shape::CallAttrKw => {
+            let attribute = word(minus, cells, 0)?;
+            let positional = byte(minus, cells, 1)?;
+            let names = byte(minus, cells, 2)?;
+            let operand = Operand::CallAttrKw {
+                attribute,
+                positional,
+                names,
+            };
+            told(operand, 3, names, n)
+        }
+        Shape::U16U16U8 => {
+            let a = word(minus, cells, 0)?;
+            let b = word(minus, cells, 1)?;
+            let d = byte(minus, cells, 2)?;
+            told(Operand::U16U16U8(a, b, d), 3, 0, n)
+        }
     }
-    let a = number_at(minus, cells, 0);
-    let b = number_at(false, cells, 1);
-    let d = number_at(false, cells, 2);
-    let bits = bits_of(minus, a.word);
-    let tiny = signs::to_i8((bits % 256) as u8);
-    let short = signs::to_i16(bits);
-    told_by(shape, a, b, d, tiny, short, cells.len())
 }

@@ -26,13 +26,6 @@ pub enum Aim {
     Back(u16),
 }
 
-// A whole number by its sign and its distance from zero.
-#[derive(Clone, Copy)]
-pub struct Goal {
-    pub below: bool,
-    pub size: u64,
-}
-
 // The displacement of a jump.
 fn aim_of(operand: Operand) -> Option<Aim>
     ensures { Aims operand result }
@@ -48,52 +41,32 @@ fn aim_of(operand: Operand) -> Option<Aim>
 }
 
 // Where a jump at `at` goes whose displacement is `n`, or -1 - n.
-fn goal_of(at: usize, minus: bool, n: u16) -> Goal
+fn goal_of(at: usize, minus: bool, n: u16) -> Signed
     requires { at ≤ 65536 }
     ensures { result ≡ goal_of (pos (at + 3) +ℤ whole minus n) }
 {
     let from = at as u64 + 3;
     let by = n as u64;
     if !minus {
-        return Goal {
-            below: false,
-            size: from + by,
-        };
+        return Signed::Plus(from + by);
     }
     if by < from {
-        return Goal {
-            below: false,
-            size: from - by - 1,
-        };
+        return Signed::Plus(from - by - 1);
     }
-    Goal {
-        below: true,
-        size: by - from + 1,
-    }
+    Signed::Minus(by - from + 1)
 }
 
 // Whether a number that was read is a goal.
-fn meets(told: Result<Signed, NumberError>, below: bool, size: u64) -> Met
-    ensures { result ≡ met_of told below size }
+#[tactic(auto, unfolding(crate::specs::Lined::met_of))]
+fn meets(told: Result<Signed, NumberError>, want: Signed) -> Met
+    ensures { result ≡ met_of told want }
 {
     match told {
-        Ok(Signed::Plus(v)) => {
-            if below {
-                return Met::Elsewhere;
+        Ok(number) => {
+            if number == want {
+                return Met::Here;
             }
-            if v != size {
-                return Met::Elsewhere;
-            }
-            Met::Here
-        }
-        Ok(Signed::Minus(v)) => {
-            if !below {
-                return Met::Elsewhere;
-            }
-            if v != size {
-                return Met::Elsewhere;
-            }
-            Met::Here
+            Met::Elsewhere
         }
         Err(NumberError::Large) => Met::Elsewhere,
         Err(NumberError::Not) => Met::Not,
@@ -105,8 +78,7 @@ fn jump(t: &[u8], at: usize, minus: bool, n: u16) -> Met
     requires { at ≤ 65536 }
     ensures { result ≡ reached_by (read_whole t.now) (pos (at + 3) +ℤ whole minus n) }
 {
-    let want = goal_of(at, minus, n);
-    meets(words::whole(t), want.below, want.size)
+    meets(words::whole(t), goal_of(at, minus, n))
 }
 
 // The target column of an instruction at `at`: `-` for all but jumps.

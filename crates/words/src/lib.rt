@@ -10,7 +10,7 @@ ghost use Rattle.text.specs.Reading.{read_whole};
 ghost use Rattle.words.specs.Numbers.{fitted, number_of, plus_of, minus_of, whole_of};
 
 // Why a text is no number in decimal of 64 bits.
-#[derive(Clone, Copy)]
+#[derive(Clone, Copy, Debug, PartialEq, Eq)]
 pub enum NumberError {
     // a number, but its magnitude is not below 2^64
     Large,
@@ -18,7 +18,7 @@ pub enum NumberError {
 }
 
 // A whole number in decimal by its magnitude: a minus sign stands in front of one below zero, and there is no -0.
-#[derive(Clone, Copy)]
+#[derive(Clone, Copy, Debug, PartialEq, Eq)]
 pub enum Signed {
     Plus(u64),
     Minus(u64),

@@ -14,4 +14,4 @@ returns c =
     let a = c.args in
     let small = goal_small a.at a.n a.minus c.requires (omega (arith, c.ranges.n)) in
     rw (sym (met_reached (read_whole a.t.now) (pos (a.at + 3) +ℤ whole a.minus a.n) small))
-    (rw (sym c.whole.ensures, sym c.goal_of-want.ensures) c.meets.ensures)
+    (rw (sym c.whole.ensures, sym c.goal_of.ensures) c.meets.ensures)
