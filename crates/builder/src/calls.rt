@@ -22,10 +22,10 @@ ghost use Rattle.op.specs.Opcodes.{RaiseUnboundLocal};
 
 use crate::{
     Builder, Core, JumpLabel, JumpTarget, Location, back, emission, exceptions, forward, marks,
-    names, numbered, patch, regions,
+    names, numbered, patch, regions, tables,
 };
 use code::{
-    CODE_LIMIT, CodeRange, EXCEPTION_CELLS, HandlerKind, MARK_CELLS, START_CELLS, WORD_MAX, store,
+    CODE_LIMIT, CodeRange, EXCEPTION_CELLS, HandlerKind, MARK_CELLS, START_CELLS, WORD_MAX,
 };
 use op::{Operand, Refusal, Table, opcodes};
 
@@ -41,7 +41,7 @@ impl Builder {
         if starts.len() / START_CELLS <= 0 {
             return Err(Refusal::Full(Table::Starts));
         }
-        store::put(starts, &[0, d as u32]);
+        tables::put(starts, &[0, d as u32]);
         Ok(regions::fresh_at(Some(d), 1))
     }
 
@@ -656,7 +656,7 @@ impl Builder {
         if constants.len() <= row {
             return Err(Refusal::Full(Table::Constants));
         }
-        store::put(&mut constants[row..], &[value]);
+        tables::put(&mut constants[row..], &[value]);
         Ok((
             Builder {
                 constants: row + 1,
@@ -697,7 +697,7 @@ impl Builder {
             return Err(Refusal::Full(Table::Exceptions));
         }
         let base = row * EXCEPTION_CELLS;
-        store::put(
+        tables::put(
             &mut exceptions[base..],
             &[
                 start as u32,

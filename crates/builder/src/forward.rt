@@ -4,8 +4,8 @@ ghost use Rattle.builder.specs.Inner.{JumpCommitted, JumpGoes, Lives};
 ghost use Rattle.std.specs.Prelude.{length, ◌≡◌};
 
 use crate::plan::Decision;
-use crate::{Core, Location, emission, marks, plan};
-use code::{MARK_CELLS, store};
+use crate::{Core, Location, emission, marks, plan, tables};
+use code::MARK_CELLS;
 use op::{Operand, Table, depths};
 
 // What is decided of a forward jump in live code, at depth `d`.
@@ -75,7 +75,7 @@ pub fn commit_jump(
     let row = core.marks;
     let at = core.code;
     let base = row * MARK_CELLS;
-    store::put(&mut marks[base..], &[marks::OPEN, at as u32, t as u32, 0]);
+    tables::put(&mut marks[base..], &[marks::OPEN, at as u32, t as u32, 0]);
     Core {
         code: at + size,
         locations: rows,

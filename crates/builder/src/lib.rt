@@ -23,6 +23,7 @@ mod marks;
 mod names;
 mod numbered;
 mod regions;
+mod tables;
 
 // The source location of the instructions to come: the range, and the part of it that a traceback points at.
 #[derive(Clone, Copy, Debug, PartialEq, Eq)]

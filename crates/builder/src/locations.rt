@@ -5,8 +5,8 @@ ghost use Rattle.code.specs.Locations.{location_at, location_numbers};
 ghost use Rattle.code.specs.Tables.{code_limit, location_cells};
 ghost use Rattle.code.specs.Bytes.{front};
 
-use crate::Location;
-use code::{CodeRange, LOCATION_CELLS, store};
+use crate::{Location, tables};
+use code::{CodeRange, LOCATION_CELLS};
 
 // Whether a location that is set has room for its row.
 #[inline(always)]
@@ -26,8 +26,8 @@ fn write_row(out: &mut [u32], offset: u32, range: CodeRange, focus: Option<CodeR
     ensures { out.new ≡ front (location_numbers (location_at offset range focus)) out.old }
 {
     match focus {
-        None => store::put(out, &[offset, range.start, range.end, 0, 0, 0]),
-        Some(f) => store::put(out, &[offset, range.start, range.end, 1, f.start, f.end]),
+        None => tables::put(out, &[offset, range.start, range.end, 0, 0, 0]),
+        Some(f) => tables::put(out, &[offset, range.start, range.end, 1, f.start, f.end]),
     }
 }
 

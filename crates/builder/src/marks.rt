@@ -4,8 +4,8 @@ ghost use Rattle.builder.specs.Marks.{target_outcome, target_at, any_open, mark_
 ghost use Rattle.builder.specs.Marks.{markable, near, bits, meets, revived};
 ghost use Rattle.code.specs.Tables.{code_limit, mark_cells, jump_size};
 
-use crate::{Builder, Core, JumpTarget};
-use code::{CODE_LIMIT, JUMP_SIZE, MARK_CELLS, WORD_MAX, store};
+use crate::{Builder, Core, JumpTarget, tables};
+use code::{CODE_LIMIT, JUMP_SIZE, MARK_CELLS, WORD_MAX};
 use op::{Refusal, Table};
 
 // A used mark with its offset and depth. Absent: the row is not used, or of no kind.
@@ -150,7 +150,7 @@ pub fn mark_target(b: Builder, d: u16, marks: &mut [u32]) -> Result<(Builder, Ju
     }
     let base = row * MARK_CELLS;
     let at = core.code;
-    store::put(&mut marks[base..], &[TARGET, at as u32, d as u32, 0]);
+    tables::put(&mut marks[base..], &[TARGET, at as u32, d as u32, 0]);
     let core = Core {
         marks: row + 1,
         ..core

@@ -6,7 +6,7 @@ ghost use Rattle.builder.specs.Patch.{mark_plan_of, open_plan};
 ghost use Rattle.builder.specs.Inner.{PatchCommitted};
 
 use crate::marks::Mark;
-use crate::{Core, marks};
+use crate::{Core, marks, tables};
 use code::{MARK_CELLS, store};
 use op::Refusal;
 
@@ -80,7 +80,7 @@ pub fn commit_patch(
         marks.new }
 {
     let p = offset + 1;
-    store::put(&mut code[p..], &store::halves(w));
+    tables::put(&mut code[p..], &store::halves(w));
     let base = i * MARK_CELLS;
     marks[base] = marks::PATCHED;
     Core {

@@ -4,8 +4,8 @@ ghost use Rattle.code.specs.Tables.{code_limit};
 ghost use Rattle.builder.specs.State.{kept};
 ghost use Rattle.builder.specs.Regions.{fresh_at, region_at};
 
-use crate::{Builder, Core};
-use code::{START_CELLS, store};
+use crate::{Builder, Core, tables};
+use code::START_CELLS;
 use op::{Refusal, Table};
 
 // A builder with nothing in it but so many starts.
@@ -40,7 +40,7 @@ pub fn store_start(b: Builder, d: u16, starts: &mut [u32]) -> Result<Builder, Re
     }
     let base = row * START_CELLS;
     let at = core.code;
-    store::put(&mut starts[base..], &[at as u32, d as u32]);
+    tables::put(&mut starts[base..], &[at as u32, d as u32]);
     let live = Core {
         depth: Some(d),
         ..core

@@ -4,7 +4,7 @@ ghost use Rattle.code.specs.Bytes.{front, word_bytes};
 
 // Bytes of code, or cells of a table.
 #[inline(always)]
-pub fn put<T: Copy>(out: &mut [T], cells: &[T])
+pub(crate) fn put<T: Copy>(out: &mut [T], cells: &[T])
     requires { length cells.now ≤ length out.old }
     ensures { out.new ≡ front cells.now out.old }
 {

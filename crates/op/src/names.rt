@@ -53,13 +53,15 @@ pub fn of_opcode<'a>(opcode: u8, text: &'a [u8], starts: &[usize]) -> &'a [u8]
 // All names, made once for many look-ups.
 #[derive(Drop)]
 pub struct Names {
-    text: [u8; 1315],
-    starts: [usize; 132],
+    pub text: [u8; 1315],
+    pub starts: [usize; 132],
     ghost own: { (text ≡ name_text) × (starts ≡ name_starts) },
 }
 
 impl Names {
-    pub fn new() -> Names {
+    pub fn new() -> Names
+        ensures { (result.text ≡ name_text) × (result.starts ≡ name_starts) }
+    {
         Names {
             text: text(),
             starts: starts(),

@@ -1,0 +1,12 @@
+// Cells at the front of a slice, which has room for them.
+ghost use Rattle.std.specs.Prelude.{◌≡◌, ◌≤◌, length};
+ghost use Rattle.code.specs.Bytes.{front};
+
+// Bytes of code, or cells of a table. Crate `code` has its own, as a public function of this project requires nothing.
+#[inline(always)]
+pub fn put<T: Copy>(out: &mut [T], cells: &[T])
+    requires { length cells.now ≤ length out.old }
+    ensures { out.new ≡ front cells.now out.old }
+{
+    out[..cells.len()].copy_from_slice(cells);
+}
