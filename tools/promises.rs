@@ -5,7 +5,8 @@
 //! A program owes no promise: only crates with src/lib.rt are looked at. A `pub fn` of a module that lib.rt
 //! declares by plain `mod` is reached by no other crate and counts as private, unless a `pub use` of lib.rt
 //! hands it on. A `pub fn` of an `impl` block is reached by its type, wherever the block stands: it counts where lib.rt has
-//! the type as `pub`. An exported function is always public, and has to have the promise of a library's function of its name.
+//! the type as `pub`. A conversion (`impl From`, `impl TryFrom`) counts where lib.rt has one of its two types as `pub`; its promise
+//! is the block's ghost member. An exported function is always public, and has to have the promise of a library's function of its name.
 
 use std::{
     env, fs,
@@ -52,6 +53,17 @@ struct Function<'a> {
     exported: bool,
     ensures: Vec<&'a str>,
     requires: bool,
+}
+
+/// A conversion from one type into another, by a block `impl From` or `impl TryFrom`.
+struct Conversion<'a> {
+    line: usize,
+    /// `from` or `try_from`.
+    name: &'a str,
+    source: &'a str,
+    goal: &'a str,
+    /// The ghost member that says what it gives.
+    promise: Option<&'a str>,
 }
 
 fn main() -> ExitCode {
@@ -119,7 +131,11 @@ fn listed(lines: &[(String, String)], write: bool) -> bool {
         println!("promises: the list in {LISTED} is not what the sources say: tools/promises --write makes it anew");
         return false;
     }
-    let unnamed = lines.iter().filter(|(name, _)| !words(before).iter().any(|(_, word)| word == name));
+    // A conversion is named by its type too.
+    let unnamed = lines.iter().filter(|(name, _)| match name.contains("::") {
+        true => !before.contains(name.as_str()),
+        false => !words(before).iter().any(|(_, word)| word == name),
+    });
     let unnamed: Vec<&str> = unnamed.map(|(name, _)| name.as_str()).collect();
     unnamed.iter().for_each(|name| println!("promises: {LISTED} has no row for {name}"));
     unnamed.is_empty()
@@ -150,6 +166,16 @@ fn look_at_crate(source_folder: &Path, list_all: bool, counts: &mut Counts) {
                 counts.lines.push((function.name.to_owned(), line_of(source_folder, &path, &function)));
             }
         }
+        for conversion in conversions(&text) {
+            let types = [conversion.goal, conversion.source];
+            if !types.into_iter().any(|name| declares_type(&root_text, name)) {
+                counts.private += 1;
+                continue;
+            }
+            count_conversion(&path, &conversion, list_all, counts);
+            let called = format!("{}::{}", conversion.goal, conversion.name);
+            counts.lines.push((called, line_of_conversion(source_folder, &conversion)));
+        }
     }
 }
 
@@ -163,6 +189,17 @@ fn line_of(source_folder: &Path, path: &Path, function: &Function<'_>) -> String
         place = format!("{place}::{}", module_of(source_folder, path));
     }
     format!("| `{place}::{}` | `{}` |\n", function.name, promise_of(function))
+}
+
+/// The same of a conversion, which is called by the type that it gives.
+fn line_of_conversion(source_folder: &Path, conversion: &Conversion<'_>) -> String {
+    let crate_name = source_folder.parent().and_then(Path::file_name).expect("src/ stands in a crate");
+    let Conversion { name, source, goal, promise, .. } = conversion;
+    format!(
+        "| `{}::{goal}::{name}({source})` | `{}` |\n",
+        crate_name.to_string_lossy(),
+        promise.map_or(String::new(), said)
+    )
 }
 
 /// What a function promises, as the list has it.
@@ -203,6 +240,18 @@ fn count(path: &Path, function: &Function<'_>, reached: bool, list_all: bool, co
         ];
         let said: String = said.iter().filter(|(on, _)| *on).map(|(_, word)| *word).collect();
         println!("{}:{line}: {name}{said}", path.display());
+    }
+}
+
+fn count_conversion(path: &Path, conversion: &Conversion<'_>, list_all: bool, counts: &mut Counts) {
+    let promised = conversion.promise.is_some();
+    counts.public += 1;
+    counts.promised += usize::from(promised);
+    counts.bare += usize::from(!promised);
+    if list_all || !promised {
+        let Conversion { line, name, goal, .. } = conversion;
+        let said = if promised { "" } else { " NO PROMISE" };
+        println!("{}:{line}: {goal}::{name}{said}", path.display());
     }
 }
 
@@ -274,6 +323,36 @@ fn words(text: &str) -> Vec<(usize, &str)> {
     let pieces = text.split(|c| !is_part(c)).filter(|word| !word.is_empty());
     pieces
         .map(|word| (word.as_ptr() as usize - text.as_ptr() as usize, word))
+        .collect()
+}
+
+/// Each conversion of a text without comments.
+fn conversions(text: &str) -> Vec<Conversion<'_>> {
+    let words = words(text);
+    let blocks = words.iter().filter(|(_, word)| *word == "impl");
+    blocks
+        .filter_map(|(at, _)| {
+            let block = &text[*at..*at + end_of_braces(&text[*at..])];
+            let (head, body) = block.split_once('{')?;
+            let (kind, goal) = head.strip_prefix("impl")?.split_once(" for ")?;
+            let (kind, source) = kind.trim().strip_suffix('>')?.split_once('<')?;
+            let name = match kind {
+                "From" => "from",
+                "TryFrom" => "try_from",
+                _ => return None,
+            };
+            let promise = body.find(&format!("{name}_gives")).map(|from| {
+                let rest = &body[from..];
+                &rest[..end_of_braces(rest)]
+            });
+            Some(Conversion {
+                line: text[..*at].matches('\n').count() + 1,
+                name,
+                source,
+                goal: goal.trim(),
+                promise,
+            })
+        })
         .collect()
 }
 

@@ -1,3 +1,4 @@
 pub mod Bools
 pub mod Lists
 pub mod Keys
+pub mod Numbered

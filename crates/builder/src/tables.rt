@@ -2,11 +2,14 @@
 ghost use Rattle.std.specs.Prelude.{◌≡◌, ◌≤◌, length};
 ghost use Rattle.code.specs.Bytes.{front};
 
-// Bytes of code, or cells of a table. Crate `code` has its own, as a public function of this project requires nothing.
+// Bytes of code, or cells of a table, one after the other as in `code`, which has its own function, since a public function of
+// this project requires nothing.
 #[inline(always)]
 pub fn put<T: Copy>(out: &mut [T], cells: &[T])
     requires { length cells.now ≤ length out.old }
     ensures { out.new ≡ front cells.now out.old }
 {
-    out[..cells.len()].copy_from_slice(cells);
+    for (i, cell) in cells.iter().enumerate() {
+        out[i] = *cell;
+    }
 }

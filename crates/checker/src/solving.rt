@@ -5,7 +5,7 @@ ghost use Rattle.checker.specs.Promise.{Listed};
 ghost use Rattle.checker.specs.Inner.{NoFault, Marked, Fitted, Examined};
 
 use crate::{Assignment, Unmet, cells, lists, walks};
-use code::NO_DEPTH;
+use code::{NO_DEPTH, lent};
 use op::Refusal;
 
 // The smallest assignment with its count and its greatest depth, or why there is none.
@@ -20,14 +20,14 @@ fn solve(
     ensures { Examined last_opcode code.now starts.now cells.old
         cells.new result }
 {
-    cells.fill(NO_DEPTH);
+    lent::fill(cells, NO_DEPTH);
     match lists::reach(code, starts, cells, work) {
         Ok(taken) => Ok(Assignment {
             count: cells::before_last(cells, taken),
             greatest: cells::greatest(cells),
         }),
         Err(why) => {
-            cells.fill(NO_DEPTH);
+            lent::fill(cells, NO_DEPTH);
             Err(Unmet::Unsolved(why))
         }
     }
@@ -77,8 +77,8 @@ pub fn within(
     ensures { Examined last_opcode code.now starts.now cells.old
         cells.new result × (work.new ≡ replicate (suc (length code.now)) 0) }
 {
-    work.fill(0);
+    lent::fill(work, 0);
     let examined = examine(code, starts, cells, work);
-    work.fill(0);
+    lent::fill(work, 0);
     examined
 }

@@ -17,3 +17,4 @@ pub mod Joined
 pub mod Places
 pub mod Assigning
 pub mod Counting
+pub mod Kinded

@@ -2,7 +2,7 @@
 -- Assumes nothing.
 use mathlib.Core.Path.{◌≡◌, refl, ap, ◌∙◌}
 use mathlib.Core.List.{List, [], ◌∷◌, ◌++◌, append_assoc, append-nil}
-use Prim.Native.Nat.{ℕ, ◌+◌, ◌-◌, ◌*◌, ◌/◌, ◌%◌, ◌≤◌, ◌<◌}
+use Prim.Native.Nat.{ℕ, zero, suc, ◌+◌, ◌-◌, ◌*◌, ◌/◌, ◌%◌, ◌≤◌, ◌<◌}
 use native.Mathlib.Numerals.{add-one}
 use native.Mathlib.Nat.{zero-add, le_refl}
 use native.Mathlib.Omega.{arith}
@@ -26,6 +26,19 @@ module _ (p xs l : List ℕ) (h : length p + length xs ≤ length l) where
 -- xs stored at the very front
 pub sets_front : (xs l : List ℕ) → length xs ≤ length l → sets l 0 xs ≡ front xs l
 sets_front xs l h = sets-eq xs l 0 (omega arith) ∙ simp zero-add
+
+-- one cell more of s, at the front
+put_next : {A : Type 0} (s d : List A) (i : ℕ) (x : A) → i < length s → length s ≤ length d → x ≡ get_or s i x
+    → set (front (take i s) d) i x ≡ front (take (suc i) s) d
+put_next [] d i x l room e = absurd (omega (arith, l))
+put_next (y ∷ s) [] i x l room e = absurd (omega (arith, room))
+put_next {A} (y ∷ s) (z ∷ d) zero x l room e = ap (λ (c : A). c ∷ d) e
+put_next {A} (y ∷ s) (z ∷ d) (suc i) x l room e =
+    ap (λ (r : List A). y ∷ r) (put_next s d i x (omega (arith, l)) (omega (arith, room)) e)
+
+pub front_next : {A : Type 0} (s d : List A) (i : ℕ) (x : A) → i < length s → length s ≤ length d → x ≡ get_or s i x
+    → set (front (take i s) d) i x ≡ front (take (i + 1) s) d
+front_next s d i x l room e = rw (add-one i) (put_next s d i x l room e)
 
 -- a part from a to the end is lent, and comes back with xs at its front
 module _ (a : ℕ) (xs l : List ℕ) (h : a + length xs ≤ length l) where

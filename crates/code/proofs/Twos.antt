@@ -45,7 +45,7 @@ module _ (w : Width) (m : ℕ) (em : m ≡ 2 ^ bits w) (eh : m / 2 ≡ 2 ^ hbits
   unsigned_signed b h =
       ap (unsigned m) (signed_to_z b h) ∙ unsigned_of_z (to_z w b) ∙ of_z-to_z {w = w} (record { fits = rw em at h })
 
-  -- the code's way from a number below 0 to its bits: `!x` is not below 0
+  -- a way from a number below 0 to its bits: `!x` is not below 0
   module _ (top : ℕ) (et : suc top ≡ m) where
     pub flipped : (z : ℤ) → SFits w z → lt_z (to_z w (of_z w z)) (pos 0) ≡ true
         → to_z w (top - of_z w z) ≡ pos (top - unsigned m z)

@@ -102,7 +102,7 @@ fn shaped_flow(code: &[u8], at: usize, shape: Shape) -> Result<Option<Flow>, Ref
 }
 
 // How the instruction at an offset moves on: whether it falls through, what that does to the depth, where it jumps
-// and what that does to the depth. End and refusals are the step's.
+// and what that does to the depth. The end and refusals are the step's.
 pub fn flow_at(code: &[u8], at: usize) -> Result<Option<Flow>, Refusal>
     ensures { result ≡ flow_of last_opcode at (drop at code.now) }
 {

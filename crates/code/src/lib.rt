@@ -8,6 +8,7 @@ use op::{Effect, Operand, Refusal};
 pub mod decoder;
 pub mod entries;
 pub mod flows;
+pub mod lent;
 pub mod lookups;
 mod numbers;
 pub mod reading;

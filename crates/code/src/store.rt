@@ -2,13 +2,15 @@
 ghost use Rattle.std.specs.Prelude.{◌≡◌, ◌≤◌, length};
 ghost use Rattle.code.specs.Bytes.{front, word_bytes};
 
-// Bytes of code, or cells of a table.
+// Bytes of code. One after the other: a copy of them all would have them stored in memory first, and wait for that.
 #[inline(always)]
 pub(crate) fn put<T: Copy>(out: &mut [T], cells: &[T])
     requires { length cells.now ≤ length out.old }
     ensures { out.new ≡ front cells.now out.old }
 {
-    out[..cells.len()].copy_from_slice(cells);
+    for (i, cell) in cells.iter().enumerate() {
+        out[i] = *cell;
+    }
 }
 
 // A word's two bytes, the low one first.

@@ -4,3 +4,4 @@ pub mod Computed
 pub mod Telling
 pub mod Numbers
 pub mod Undoing
+pub mod Wrapping

@@ -3,11 +3,13 @@
 use lib.ListN.{get_or-eq_default}
 use borrow.Author.Tests.{ne_eqb, le-leb, lt-leb}
 use native.Mathlib.Omega.{arith}
+use Rattle.base.proofs.Numbered.{numbered_one}
 use Rattle.op.specs.declared.CmpOperator.{CmpOperator}
-use Rattle.std.specs.Prelude.{Some, None, Option}
-use mathlib.Core.Path.{◌≡◌, refl, sym}
-use Prim.Native.Nat.{ℕ, ◌+◌, ◌-◌, ◌<◌}
-use Rattle.op.specs.Flags.{comparison_number, comparisons, decoded_flags, flags_of}
+use Rattle.op.specs.declared.flags.NoComparison.{NoComparison}
+use Rattle.std.specs.Prelude.{Some, None, Option, Result}
+use mathlib.Core.Path.{◌≡◌, refl, sym, ap, ◌∙◌}
+use Prim.Native.Nat.{ℕ, ◌+◌, ◌-◌, ◌<◌, ◌≤◌}
+use Rattle.op.specs.Flags.{comparison_number, comparisons, decoded_flags, flags_of, Compares}
 use Rattle.op.specs.declared.CmpOperator.{CmpOperator}
 use Rattle.op.specs.declared.CmpOperator.TheVariants.{Eq, NotEq, Lt, LtE, Gt, GtE, Is, IsNot, In, NotIn}
 
@@ -25,6 +27,31 @@ flags_back (Some Is) = refl
 flags_back (Some IsNot) = refl
 flags_back (Some In) = refl
 flags_back (Some NotIn) = refl
+
+-- a comparison's number says which it is
+same_comparison : (x y : CmpOperator) → comparison_number x ≡ comparison_number y → x ≡ y
+same_comparison x y e =
+    let same : Some (Some x) ≡ Some (Some y) =
+    sym (flags_back (Some x)) ∙ ap (λ (n : ℕ). decoded_flags (0x10 + n)) e ∙ flags_back (Some y) in
+    cc
+
+comparison_low : (x : CmpOperator) → comparison_number x ≤ 9
+comparison_low Eq = omega arith
+comparison_low NotEq = omega arith
+comparison_low Lt = omega arith
+comparison_low LtE = omega arith
+comparison_low Gt = omega arith
+comparison_low GtE = omega arith
+comparison_low Is = omega arith
+comparison_low IsNot = omega arith
+comparison_low In = omega arith
+comparison_low NotIn = omega arith
+
+-- a number and its comparison: one answer
+pub comparison_one : (n : ℕ) (r s : Result CmpOperator NoComparison) → Compares n r → Compares n s → r ≡ s
+comparison_one n r s =
+    numbered_one comparison_number (λ (e : NoComparison). e.0) 9 n r s same_comparison
+    (λ (d e : NoComparison) (p : d.0 ≡ e.0). ap (λ (k : ℕ). record { 0 = k }) p) comparison_low
 
 -- a byte whose lower half is a comparison's number is that comparison, and one whose lower half is none is invalid
 pub decoded_is : (b n : ℕ) (x : CmpOperator) → b ≡ 0x10 + n → comparison_number x ≡ n → Some (Some x) ≡ decoded_flags b

@@ -35,6 +35,9 @@ impl TryFrom<u8> for Shape {
     }
 }
 
+// Stands for a shape's number where there is no such opcode.
+pub const NO_SHAPE: u8 = 12;
+
 // The row of the shapes' numbers, eight opcodes a word.
 #[inline(always)]
 fn word(eight: u8) -> u64
@@ -62,7 +65,7 @@ fn word(eight: u8) -> u64
     }
 }
 
-// The number of an opcode's shape; 12 where there is no such opcode.
+// The number of an opcode's shape, or NO_SHAPE.
 #[inline(always)]
 pub fn shape_number(opcode: u8) -> u8
     ensures { result ≡ shape_no opcode }
@@ -87,6 +90,14 @@ pub fn number(shape: Shape) -> u8
     ensures { result ≡ shape_number shape }
 {
     shape as u8
+}
+
+// An operand's shape, by its name in op.rs.
+#[inline(always)]
+pub fn of_operand(operand: Operand) -> Shape
+    ensures { result ≡ operand_shape operand }
+{
+    Shape::from(operand)
 }
 
 impl From<Operand> for Shape {

@@ -8,7 +8,7 @@ ghost use Rattle.strict.specs.Promise.{Promise, Explains};
 ghost use Rattle.strict.specs.Inner.{FirstShort, Shortened, Judged, unfit_of, refusal_of};
 
 use checker::{Assignment, Reason, Unmet};
-use code::NO_DEPTH;
+use code::{NO_DEPTH, lent};
 use op::{Refusal, needs};
 
 // What a check asks of an instruction's depth.
@@ -73,7 +73,7 @@ fn refuse(code: &[u8], depths: &mut [u32], at: usize) -> Unfit
     let depth = depths[at];
     let need = needs::need(code[at]);
     let end = code.len() + 1;
-    depths[..end].fill(NO_DEPTH);
+    lent::fill(&mut depths[..end], NO_DEPTH);
     Unfit::TooFew { at, depth, need }
 }
 

@@ -7,12 +7,11 @@ use mathlib.Core.Bool.{Bool, true, false, cond}
 use mathlib.Core.List.{List, [], ◌∷◌, ◌++◌}
 use Prim.Native.Nat.{ℕ, suc, ◌+◌, ◌-◌, ◌≤◌, ◌<◌}
 use native.Mathlib.Nat.{add-zero}
+use native.Mathlib.Numerals.{add-one}
 use native.Mathlib.Omega.{arith}
 use lib.Dec.{leb}
-use lib.ListN.{length, set, take, drop, length-append}
-use borrow.Rule.Slice.PartMut.{put_mid}
-use Rattle.std.proofs.lemmas.Slice.{put_mid-paste}
-use lib.Seq.{sets, sets-eq, take_all, take_at, length-sets}
+use lib.ListN.{length, set, take, drop, get_or, length-append}
+use lib.Seq.{sets, sets-eq, take-suc, take_at, length-take-le, length-sets}
 use borrow.Author.Tests.{le-leb, lt-leb}
 use Rattle.op.specs.declared.Refusal.TheVariants.{Full}
 use Rattle.op.specs.declared.Table.TheVariants.{Text}
@@ -113,22 +112,14 @@ placed_place old at text e q = by (leb (length text) (length old - at)) q
     by true q = cc
     by false q = cc
 
--- no text, at any place
-pub put_none : (out src : List ℕ) (at : ℕ) → length src ≡ 0 → Put out at src at out
-put_none out [] at h = record { next_is = omega arith; out_is = refl }
-put_none out (x ∷ src) at h = let z : ⊥ = omega arith in absurd z
-
--- a text copied into the cells from a place on
-pub copied : (old src new : List ℕ) (at k : ℕ) → at + length src ≤ length old → k ≡ length src → new ≡ src
-    → Put old at src (at + length src) (put_mid at k old new)
-copied old src new at k h e f =
-    record {
-      next_is = refl;
-      out_is =
-          put_mid-paste at k old new src (length src) f (sym e) refl
-          ∙ ap (λ (s : List ℕ). take at old ++ s ++ drop (at + length src) old) (take_all (length src) src (omega arith))
-          ∙ sym (sets-eq src old at h);
-    }
+-- one more byte of s
+pub sets_more : (d : List ℕ) (at : ℕ) (s : List ℕ) (j : ℕ) → j < length s → set (sets d at (take j s)) (at + j) (get_or s j 0) ≡ sets d at (take (j + 1) s)
+sets_more d at s j h =
+    sym
+    (ap (λ (k : ℕ). sets d at (take k s)) (add-one j)
+    ∙ ap (λ (l : List ℕ). sets d at l) (take-suc s j 0 h)
+    ∙ sets_append d at (take j s) (get_or s j 0 ∷ [])
+    ∙ ap (λ (k : ℕ). set (sets d at (take j s)) (at + k) (get_or s j 0)) (length-take-le j s (omega arith)))
 
 -- a refusal is 18
 pub refused : {old text out : List ℕ} {at : ℕ} {r : Refusal} → Places old at text (Err r) out → r ≡ Full Text

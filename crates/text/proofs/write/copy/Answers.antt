@@ -1,16 +1,28 @@
--- `text::write::copy` meets its contract: the cells from `at` on are those of the text.
+-- `text::write::copy` meets its contract: after j turns the first j bytes of src stand from `at` on.
 -- Assumes nothing.
-use Rattle.std.proofs.Common.{◌≡◌, ◌<◌, length, arith}
-use Rattle.std.proofs.lemmas.Bool.Decides.{nat_tests}
-use Rattle.text.proofs.Putting.{put_none, copied}
+use mathlib.Core.Path.{refl, ap, ◌∙◌}
+use mathlib.Core.List.{List}
+use Prim.Native.Nat.{ℕ, ◌+◌}
+use native.Mathlib.Omega.{arith}
+use lib.ListN.{set, get_or, length-set}
+use lib.Seq.{sets, take_all}
+use Rattle.text.proofs.Putting.{sets_more}
 use Rattle.text.proofs.write.copy.Goals as goal
 
-pub returns-then-is_empty : goal.returns-then-is_empty
-returns-then-is_empty c =
-    let none : length c.args.src.now ≡ 0 = grind (arith, nat_tests) in
-    put_none _ _ _ none
+pub loop-j-preserved : goal.loop-j-preserved
+loop-j-preserved c =
+    let l = c.loop-j in
+    let a = c.args in (
+      simp length-set l.invariant.0,
+      ap (λ (d : List ℕ). set d (a.at + l.j) (get_or a.src.now l.j 0)) l.invariant.1
+          ∙ sets_more a.out.now a.at a.src.now l.j (omega arith),
+    )
 
 pub returns : goal.returns
 returns c =
-    let some : 0 < length c.args.src.now = grind (arith, nat_tests) in
-    copied _ _ _ _ _ (omega (arith, some, c.requires)) (omega arith) c.copy_from_slice.ensures.after
+    let l = c.loop-j in
+    let a = c.args in
+    record {
+      next_is = refl;
+      out_is = l.invariant.1 ∙ ap (λ (s : List ℕ). sets a.out.now a.at s) (take_all l.j a.src.now (omega arith));
+    }
